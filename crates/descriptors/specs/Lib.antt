@@ -1,1 +1,7 @@
 pub mod Refusal
+pub mod Record
+pub mod Place
+pub mod Cells
+pub mod Split
+pub mod Ring
+pub mod Walk
