@@ -48,11 +48,14 @@ nextCell (At j) = cond (ltb j 65535) (j + 1) 0
 abbrev pub cell : ℕ → List ℕ → ℕ → ℕ
 cell b ws i = cond (ltb b blocks && ltb i limit) (getD ws (limit * b + i) 0) 0
 
+abbrev pub startAt : List ℕ → ℕ → ℕ
+startAt st i = getD st i 0
+
 -- record i, as the starts and the cells show it
 abbrev pub recordAt : List ℕ → List ℕ → ℕ → DmaDescriptor
 recordAt st ws i =
     record {
-      buffer = getD st i 0;
+      buffer = startAt st i;
       size = cell 0 ws i;
       length = cell 1 ws i;
       «suc_eof» = eofOf (cell 4 ws i);
@@ -120,3 +123,7 @@ putOwner ws i o = put 3 ws i (ownerCell o)
 
 abbrev pub putEof : List ℕ → ℕ → Bool → List ℕ
 putEof ws i e = put 4 ws i (eofCell e)
+
+-- all the cells of one record
+abbrev pub putRecord : List ℕ → ℕ → DmaDescriptor → List ℕ
+putRecord ws i d = putNext (putOwner (putEof (putLength (putSize ws i (d .size)) i (d .length)) i (d .«suc_eof»)) i (d .owner)) i (d .next)

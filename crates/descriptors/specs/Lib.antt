@@ -5,3 +5,4 @@ pub mod Cells
 pub mod Split
 pub mod Ring
 pub mod Walk
+pub mod laws

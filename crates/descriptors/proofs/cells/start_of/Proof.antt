@@ -1,0 +1,22 @@
+use lib.ListN.{List·getD-eq-default}
+use mathlib.Core.Path.{_≡_, refl, sym, _∙_, ap}
+use borrow.Author.Needs.{needs}
+use Rattle.descriptors.proofs.cells.start_of.Statement.{statement}
+use Rattle.descriptors.proofs.cells.start_of.Tie as tie
+use Rattle.descriptors.proofs.cells.start_of.Reads as reads
+use Rattle.descriptors.proofs.cells.start_of.Lts as lts
+
+returns : tie.Need-returns
+returns c = sym (List·getD-eq-default (c .before .args .s .now) 0 (c .if1 .taken))
+
+mul-result : tie.Need-mul-result
+mul-result c = search needs
+
+shared-slice-read-result : tie.Need-shared-slice-read-result
+shared-slice-read-result c = search needs
+
+returns-2 : tie.Need-returns-2
+returns-2 c = search needs
+
+pub start-of-spec : {M : Type 1} → statement M
+start-of-spec = tie.close (tie.spec returns mul-result shared-slice-read-result returns-2)
