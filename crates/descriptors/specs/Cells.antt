@@ -31,7 +31,7 @@ abbrev pub nextOf : ℕ → Next
 nextOf zero = Nothing
 nextOf (suc j) = At j
 
--- and how it is written: a number that no cell holds is none
+-- and how it is written
 abbrev pub ownerCell : Owner → ℕ
 ownerCell Cpu = 0
 ownerCell Dma = 1
@@ -42,7 +42,12 @@ eofCell false = 0
 
 abbrev pub nextCell : Next → ℕ
 nextCell Nothing = 0
-nextCell (At j) = cond (ltb j 65535) (j + 1) 0
+nextCell (At j) = j + 1
+
+-- a record number that a cell can hold: a store of another changes nothing
+abbrev pub numbered : Next → Bool
+numbered Nothing = true
+numbered (At j) = ltb j 65535
 
 -- cell i of block b
 abbrev pub cell : ℕ → List ℕ → ℕ → ℕ
@@ -116,7 +121,7 @@ abbrev pub putLength : List ℕ → ℕ → ℕ → List ℕ
 putLength ws i v = put 1 ws i v
 
 abbrev pub putNext : List ℕ → ℕ → Next → List ℕ
-putNext ws i x = put 2 ws i (nextCell x)
+putNext ws i x = cond (numbered x) (put 2 ws i (nextCell x)) ws
 
 abbrev pub putOwner : List ℕ → ℕ → Owner → List ℕ
 putOwner ws i o = put 3 ws i (ownerCell o)

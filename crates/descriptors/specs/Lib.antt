@@ -3,6 +3,7 @@ pub mod Record
 pub mod Place
 pub mod Cells
 pub mod Split
+pub mod Stores
 pub mod Ring
 pub mod Walk
 pub mod laws

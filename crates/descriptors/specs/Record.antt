@@ -91,6 +91,10 @@ linked Out n i d = withNext (following n i) (withOwner Dma d)
 
 -- ---- what the directions differ in
 
+abbrev pub isIn : TransferDirection → Bool
+isIn In = true
+isIn Out = false
+
 -- what a CPU-owned record counts for: on receive the bytes that it holds, on transmit those that it has room for
 abbrev pub spanOf : TransferDirection → DmaDescriptor → ℕ
 spanOf In d = d .length

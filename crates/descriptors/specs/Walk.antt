@@ -8,13 +8,10 @@ use lib.Dec.{ltb}
 use lib.ListN.{take, drop}
 use Rattle.descriptors.specs.Record.{recordIn, update, isCpu, withNext, spanOf, handed}
 use Rattle.descriptors.specs.Place.{after, before, turns}
-use Rattle.descriptors.specs.Cells.{putOwner, putEof, putLength, putNext, cell}
 use Rattle.descriptors.specs.Ring.{Ring}
-use Rattle.descriptors.specs.declared.record.Owner.the-variants.{Cpu, Dma}
-use Rattle.descriptors.specs.declared.record.Next.the-variants.{Nothing, At}
+use Rattle.descriptors.specs.declared.record.Next.the-variants.{At}
 use Rattle.descriptors.specs.declared.record.DmaDescriptor.{DmaDescriptor}
 use Rattle.descriptors.specs.declared.record.TransferDirection.{TransferDirection}
-use Rattle.descriptors.specs.declared.record.TransferDirection.the-variants.{In, Out}
 use Rattle.descriptors.specs.declared.walk.Moved.{Moved}
 
 -- the bytes of the CPU-owned records from record i on, of the next k records round a ring of n; f shows a record by its number
@@ -57,14 +54,6 @@ walk dir f n (suc k) m =
 -- a record handed to the device, "then the previous record's next is set to it"
 unfoldable pub handOver : TransferDirection → ℕ → ℕ → List DmaDescriptor → List DmaDescriptor
 handOver dir n i ds = update (update ds i (handed dir)) (before n i) (withNext (At i))
-
--- the same, store by store
-abbrev pub handedCells : TransferDirection → ℕ → List ℕ → List ℕ
-handedCells In i ws = putNext (putLength (putEof (putOwner ws i Dma) i false) i 0) i Nothing
-handedCells Out i ws = putNext (putEof (putLength (putOwner ws i Dma) i (cell 0 ws i)) i true) i Nothing
-
-unfoldable pub handCells : TransferDirection → ℕ → ℕ → List ℕ → List ℕ
-handCells dir n i ws = putNext (handedCells dir i ws) (before n i) (At i)
 
 -- ---- k bytes taken (receive) or accepted (transmit) from the cursor on
 

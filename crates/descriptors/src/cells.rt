@@ -1,9 +1,10 @@
 // The words in which a ring stores its records: a start for each record, and the cells, a block for each other field. A field is
 // read and written here alone, one cell at a time, in the Rust's names. A number that is no record's changes nothing.
 ghost use mathlib.Core.Path.{_≡_};
+ghost use mathlib.Core.Bool.{true};
 ghost use Prim.Native.Nat.{_<_};
 ghost use Rattle.descriptors.specs.Record.{isCpu};
-ghost use Rattle.descriptors.specs.Cells.{cell, put, ownerOf, eofOf, nextOf, ownerCell, eofCell, nextCell, recordAt, startAt, putStart, putSize, putLength, putNext, putOwner, putEof, putRecord};
+ghost use Rattle.descriptors.specs.Cells.{cell, put, numbered, nextCell, ownerOf, eofOf, nextOf, ownerCell, eofCell, recordAt, startAt, putStart, putSize, putLength, putNext, putOwner, putEof, putRecord};
 use crate::record::DmaDescriptor;
 use crate::record::LIMIT;
 use crate::record::Next;
@@ -12,6 +13,9 @@ use crate::record::Owner;
 pub const BLOCKS: usize = 5;
 
 pub const CELLS: usize = BLOCKS * LIMIT;
+
+// The number that no cell holds as a next.
+const UNNUMBERED: u16 = 65535;
 
 const SIZE: usize = 0;
 
@@ -86,12 +90,22 @@ fn eof_cell(eof: bool) -> u16
     if eof { 1 } else { 0 }
 }
 
+fn is_numbered(next: Next) -> bool
+    ensures { λ r. ⌜ r ≡ numbered next ⌝ }
+{
+    match next {
+        Next::Nothing => true,
+        Next::At(j) => j < UNNUMBERED,
+    }
+}
+
 fn next_cell(next: Next) -> u16
+    requires { ⌜ numbered next ≡ true ⌝ }
     ensures { λ r. ⌜ r ≡ nextCell next ⌝ }
 {
     match next {
         Next::Nothing => 0,
-        Next::At(j) => if j < 65535 { j + 1 } else { 0 },
+        Next::At(j) => j + 1,
     }
 }
 
@@ -183,7 +197,18 @@ pub fn set_owner(w: &mut [u16], i: usize, owner: Owner)
 pub fn set_next(w: &mut [u16], i: usize, next: Next)
     ensures { λ _. ⌜ now (w .exit) ≡ putNext (now (w .entry)) i next ⌝ }
 {
-    put(w, NEXT, i, next_cell(next));
+    if is_numbered(next) {
+        put(w, NEXT, i, next_cell(next));
+    }
+}
+
+// Record i leads to record `to`.
+pub fn link_to(w: &mut [u16], i: usize, to: usize)
+    ensures { λ _. ⌜ now (w .exit) ≡ putNext (now (w .entry)) i (Next.At to) ⌝ }
+{
+    if to < 65535 {
+        set_next(w, i, Next::At(to as u16));
+    }
 }
 
 // ---- a plain record, read and written

@@ -10,7 +10,7 @@ use std::fmt::Write;
 use std::path::{Path, PathBuf};
 use std::{env, fs};
 
-use wanted::{Wanted, MODULES};
+use wanted::{Wanted, MODULES, WRAPPED};
 
 fn source_folder() -> PathBuf {
     match env::var_os("ESP_HAL_SRC") {
@@ -69,10 +69,17 @@ fn take_all(files: &[File]) -> String {
             text += &take(&file.text, wanted, &mut list);
             text += "\n";
         }
-        write_out(&format!("{module}.rs"), &text);
+        write_out(&format!("{module}.rs"), &wrapped(module, text));
     }
     list.print();
     list.text()
+}
+
+fn wrapped(module: &str, text: String) -> String {
+    match WRAPPED.iter().find(|(name, _)| *name == module) {
+        Some((_, header)) => format!("{header} {{\n{text}}}\n"),
+        None => text,
+    }
 }
 
 fn take(source: &str, wanted: &Wanted, list: &mut List) -> String {

@@ -91,31 +91,58 @@ impl Answer {
     }
 }
 
+/// The calls' names, in the order of `index`.
+pub const NAMES: [&str; 23] = [
+    "rx new",
+    "tx new",
+    "rx prepare",
+    "tx prepare",
+    "rx available_bytes",
+    "tx available_bytes",
+    "rx peek",
+    "rx peek_until_eof",
+    "rx consume",
+    "rx pop",
+    "tx push before prepare",
+    "tx offer before prepare",
+    "tx commit before prepare",
+    "tx push",
+    "tx offer",
+    "tx commit",
+    "tx advance",
+    "device receive step",
+    "device transmit step",
+    "ensure_buffer_compatible",
+    "head, middle and tail",
+    "build_descriptor_list_for_psram",
+    "numbered piece",
+];
+
 impl Call<'_> {
-    /// The call's name for the counts.
-    pub fn name(&self, direction: Direction) -> &'static str {
-        let rx = direction == Direction::Receive;
+    /// The call's place in NAMES.
+    pub fn index(&self, direction: Direction) -> usize {
+        let transmit = (direction == Direction::Transmit) as usize;
         match self {
-            Call::New => if rx { "rx new" } else { "tx new" },
-            Call::Prepare { .. } => if rx { "rx prepare" } else { "tx prepare" },
-            Call::Available => if rx { "rx available_bytes" } else { "tx available_bytes" },
-            Call::Peek => "rx peek",
-            Call::PeekUntilEof => "rx peek_until_eof",
-            Call::Consume(_) => "rx consume",
-            Call::Pop => "rx pop",
-            Call::Prefill(_) => "tx push before prepare",
-            Call::OfferPrefill => "tx offer before prepare",
-            Call::CommitPrefill(_) => "tx commit before prepare",
-            Call::Push(_) => "tx push",
-            Call::Offer => "tx offer",
-            Call::Commit(_) => "tx commit",
-            Call::Advance(_) => "tx advance",
-            Call::Fill(..) => "device receive step",
-            Call::Send => "device transmit step",
-            Call::Align(_) => "ensure_buffer_compatible",
-            Call::Cut(_) => "head, middle and tail",
-            Call::Pieces(..) => "build_descriptor_list_for_psram",
-            Call::Piece(..) => "numbered piece",
+            Call::New => transmit,
+            Call::Prepare { .. } => 2 + transmit,
+            Call::Available => 4 + transmit,
+            Call::Peek => 6,
+            Call::PeekUntilEof => 7,
+            Call::Consume(_) => 8,
+            Call::Pop => 9,
+            Call::Prefill(_) => 10,
+            Call::OfferPrefill => 11,
+            Call::CommitPrefill(_) => 12,
+            Call::Push(_) => 13,
+            Call::Offer => 14,
+            Call::Commit(_) => 15,
+            Call::Advance(_) => 16,
+            Call::Fill(..) => 17,
+            Call::Send => 18,
+            Call::Align(_) => 19,
+            Call::Cut(_) => 20,
+            Call::Pieces(..) => 21,
+            Call::Piece(..) => 22,
         }
     }
 

@@ -7,7 +7,7 @@ mod plain;
 mod show;
 mod side;
 
-pub use call::{Align, Answer, Call, Chip, Direction, Range, Voice};
+pub use call::{Align, Answer, Call, Chip, Direction, NAMES, Range, Voice};
 pub use plain::{Device, Owner, Record, State};
 pub use show::{commands, hex, record_line};
 pub use side::Side;

@@ -1,10 +1,9 @@
 -- What a cell says of a mark, a next and an owner.
-use Prim.Native.Nat.{ℕ, zero, suc, _+_, _-_, _<_}
-use mathlib.Core.Path.{_≡_, refl}
+use Prim.Native.Nat.{ℕ, zero, suc, _+_, _-_, _≤_}
+use mathlib.Core.Path.{_≡_, refl, sym}
 use mathlib.Core.Bool.{Bool, true, false}
 use native.Mathlib.Omega.{arith}
 use native.Mathlib.Numerals.{add-one}
-use borrow.Author.Tests.{lt-ltb}
 use Rattle.descriptors.specs.Cells.{ownerOf, eofOf, nextOf, ownerCell, eofCell, nextCell}
 use Rattle.descriptors.specs.declared.record.Owner.{Owner}
 use Rattle.descriptors.specs.declared.record.Owner.the-variants.{Cpu, Dma}
@@ -32,11 +31,19 @@ pub eof-read : (e : Bool) → eofOf (eofCell e) ≡ e
 eof-read true = refl
 eof-read false = refl
 
--- a record number that a cell can hold
-abbrev pub Numbered : Next → Type 0
-Numbered Nothing = Unit {0}
-Numbered (At j) = j < 65535
+pub next-read : (x : Next) → nextOf (nextCell x) ≡ x
+next-read Nothing = refl
+next-read (At j) = rw (add-one j) refl
 
-pub next-read : (x : Next) → Numbered x → nextOf (nextCell x) ≡ x
-next-read Nothing h = refl
-next-read (At j) h = rw (lt-ltb j 65535 h, add-one j) refl
+-- and a cell that was read is written again as it was
+pub owner-kept : (x : ℕ) → x ≤ 1 → ownerCell (ownerOf x) ≡ x
+owner-kept zero h = refl
+owner-kept (suc k) h = omega arith
+
+pub eof-kept : (x : ℕ) → x ≤ 1 → eofCell (eofOf x) ≡ x
+eof-kept zero h = refl
+eof-kept (suc k) h = omega arith
+
+pub next-kept : (x : ℕ) → nextCell (nextOf x) ≡ x
+next-kept zero = refl
+next-kept (suc j) = add-one j

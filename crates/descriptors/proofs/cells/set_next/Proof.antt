@@ -4,8 +4,12 @@ use Rattle.descriptors.proofs.cells.set_next.Statement.{statement}
 use Rattle.descriptors.proofs.cells.set_next.Tie as tie
 use Rattle.descriptors.proofs.cells.set_next.Reads as reads
 use Rattle.descriptors.proofs.cells.set_next.Lts as lts
+use Rattle.descriptors.proofs.cells.is_numbered.Reads as is-numbered-reads
 use Rattle.descriptors.proofs.cells.next_cell.Reads as next-cell-reads
 use Rattle.descriptors.proofs.cells.put.Reads as put-reads
+
+is-numbered-requires : tie.Need-is-numbered-requires
+is-numbered-requires c κs = search needs
 
 next-cell-requires : tie.Need-next-cell-requires
 next-cell-requires c κs = search needs
@@ -17,7 +21,15 @@ same-length : tie.Need-same-length
 same-length c = search needs
 
 returns : tie.Need-returns
-returns c = cc
+returns c =
+    let s = c .before .before .before in
+    let t = s .before .before in
+    c .before .before .put .ensures ∙ rw (sym (t .before .is-numbered .ensures) ∙ t .if1 .taken, s .next-cell .ensures)
+
+returns-2 : tie.Need-returns-2
+returns-2 c = search needs
 
 pub set-next-spec : {M : Type 1} → statement M
-set-next-spec = tie.close (tie.spec next-cell-requires put-requires same-length returns)
+set-next-spec =
+    tie.close
+    (tie.spec is-numbered-requires next-cell-requires put-requires same-length returns returns-2)

@@ -1,0 +1,82 @@
+use Rattle.descriptors.specs.laws.Tests.{flag-cleared, flag-kept}
+use Rattle.descriptors.specs.Cells.{allBelow, cells}
+use Rattle.descriptors.specs.Record.{limit}
+use borrow.Author.Tests.{eq-eqb, ne-eqb, lt-ltb, le-ltb, le-leb, lt-leb}
+use lib.ListN.{getD, length}
+use lib.Dec.{eqb, leb, ltb}
+use borrow.Author.Needs.{needs}
+use native.Mathlib.Omega.{arith}
+use mathlib.Core.Logic.{⊎-elim}
+use mathlib.Core.List.{List, []}
+use mathlib.Core.Bool.{Bool, true, false, cond, _&&_}
+use mathlib.Core.Path.{_≡_, sym, ap, _∙_, refl}
+use Prim.Native.Nat.{ℕ, suc, _+_, _-_, _*_, _≤_, _<_}
+use Rattle.descriptors.proofs.ring.marks_ok.Statement.{statement}
+use Rattle.descriptors.proofs.ring.marks_ok.Tie as tie
+use Rattle.descriptors.proofs.ring.marks_ok.Reads as reads
+use Rattle.descriptors.proofs.ring.marks_ok.Lts as lts
+
+abbrev Inv-loop : tie.InvT-loop
+Inv-loop w ok₀ j₀ ok j =
+    (j ≤ 2 * limit) × (ok ≡ allBelow (λ j. leb (getD w (limit * 3 + j) 0) 1) j)
+
+abbrev μ-loop : tie.MeasureT-loop
+μ-loop w ok₀ j₀ ok j = 2 * limit - j
+
+loop-holds : tie.Need-loop-holds Inv-loop μ-loop
+loop-holds c = search needs
+
+mul-loop : tie.Need-mul-loop Inv-loop μ-loop
+mul-loop c = search needs
+
+mul-if1 : tie.Need-mul-if1 Inv-loop μ-loop
+mul-if1 c = search needs
+
+add-if1 : tie.Need-add-if1 Inv-loop μ-loop
+add-if1 c = search needs
+
+mul-if1-2 : tie.Need-mul-if1-2 Inv-loop μ-loop
+mul-if1-2 c = search needs
+
+shared-slice-read-if1 : tie.Need-shared-slice-read-if1 Inv-loop μ-loop
+shared-slice-read-if1 c = search needs
+
+add-j : tie.Need-add-j Inv-loop μ-loop
+add-j c = search needs
+
+loop-less : tie.Need-loop-less Inv-loop μ-loop
+loop-less c = search needs
+
+loop-again : tie.Need-loop-again Inv-loop μ-loop
+loop-again c =
+    let s = c .before .before .before in
+    let a = s .before .args in
+    let p : ℕ → Bool = λ j. leb (getD (a .w .now) (limit * 3 + j) 0) 1 in (
+      omega arith,
+      ⊎-elim (λ w. w .1 ∙ flag-cleared p (s .loop .j) (lt-leb _ _ (w .0 .taken)))
+          (λ w. w .1 ∙ flag-kept p (s .loop .j) (s .loop .ok) (s .loop .inv .1) (le-leb _ _ (w .0 .left))) (c .if1 .came),
+    )
+
+returns : tie.Need-returns Inv-loop μ-loop
+returns c =
+    let s = c .before in
+    let a = s .before .args in
+    let z : s .loop .j ≡ 2 * limit = omega arith in
+    rw z at (s .loop .inv .1)
+
+pub marks-ok-spec : {M : Type 1} → statement M
+marks-ok-spec =
+    tie.close
+    (tie.spec
+    Inv-loop
+    μ-loop
+    loop-holds
+    mul-loop
+    mul-if1
+    add-if1
+    mul-if1-2
+    shared-slice-read-if1
+    add-j
+    loop-less
+    loop-again
+    returns)

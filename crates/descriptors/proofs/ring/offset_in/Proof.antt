@@ -1,0 +1,26 @@
+use borrow.Author.Tests.{eq-eqb, ne-eqb, lt-ltb, le-ltb, le-leb, lt-leb, not-true, not-false}
+use lib.ListN.{getD, length}
+use lib.Dec.{eqb, leb, ltb}
+use borrow.Author.Needs.{needs}
+use native.Mathlib.Omega.{arith}
+use mathlib.Core.Logic.{⊎-elim}
+use mathlib.Core.List.{List, []}
+use mathlib.Core.Bool.{Bool, true, false, cond, _&&_}
+use mathlib.Core.Path.{_≡_, sym, ap, _∙_, refl}
+use Prim.Native.Nat.{ℕ, suc, _+_, _-_, _*_, _≤_, _<_}
+use Rattle.descriptors.proofs.ring.offset_in.Statement.{statement}
+use Rattle.descriptors.proofs.ring.offset_in.Tie as tie
+use Rattle.descriptors.proofs.ring.offset_in.Reads as reads
+use Rattle.descriptors.proofs.ring.offset_in.Lts as lts
+
+returns : tie.Need-returns
+returns c = sym (rw (eq-eqb _ _ (c .if1 .taken)))
+
+returns-2 : tie.Need-returns-2
+returns-2 c = sym (rw (ne-eqb _ _ (c .before .if1 .left), not-true (c .before .before .args .cpu) (c .if2 .taken)))
+
+returns-3 : tie.Need-returns-3
+returns-3 c = sym (rw (ne-eqb _ _ (c .before .if1 .left), not-false (c .before .before .args .cpu) (c .if2 .left)))
+
+pub offset-in-spec : {M : Type 1} → statement M
+offset-in-spec = tie.close (tie.spec returns returns-2 returns-3)

@@ -1,0 +1,58 @@
+use Rattle.descriptors.specs.Stores.{handCells}
+use Rattle.descriptors.specs.declared.record.TransferDirection.{TransferDirection}
+use lib.ListN.{getD, length}
+use lib.Dec.{eqb, leb, ltb}
+use native.Mathlib.Omega.{arith}
+use mathlib.Core.Logic.{⊎-elim}
+use mathlib.Core.List.{List, []}
+use mathlib.Core.Bool.{Bool, true, false, cond, _&&_}
+use mathlib.Core.Path.{_≡_, sym, ap, _∙_, refl}
+use Prim.Native.Nat.{ℕ, suc, _+_, _-_, _*_, _≤_, _<_}
+use borrow.Author.Needs.{needs}
+use Rattle.descriptors.proofs.walk.hand_over_one.Statement.{statement}
+use Rattle.descriptors.proofs.walk.hand_over_one.Tie as tie
+use Rattle.descriptors.proofs.walk.hand_over_one.Reads as reads
+use Rattle.descriptors.proofs.walk.hand_over_one.Lts as lts
+use Rattle.descriptors.proofs.walk.enqueue.Reads as enqueue-reads
+use Rattle.descriptors.proofs.walk.give_back.Reads as give-back-reads
+
+enum-told : tie.Need-enum-told
+enum-told c = search needs
+
+give-back-requires : tie.Need-give-back-requires
+give-back-requires c κs = search needs
+
+enum-told-2 : tie.Need-enum-told-2
+enum-told-2 c = search needs
+
+enqueue-requires : tie.Need-enqueue-requires
+enqueue-requires c κs = search needs
+
+same-length : tie.Need-same-length
+same-length c = search needs
+
+returns : tie.Need-returns
+returns c =
+    let a = c .before .before .before .before .before .before .before .args in
+    c .before .before .give-back .ensures ∙ ap (λ (d : TransferDirection). handCells d (a .n) (a .i) (a .w .now)) (sym (c .before .before .before .before .enum-told .given .1))
+
+same-length-2 : tie.Need-same-length-2
+same-length-2 c = search needs
+
+returns-2 : tie.Need-returns-2
+returns-2 c =
+    let a = c .before .before .before .before .before .before .before .args in
+    c .before .before .enqueue .ensures ∙ ap (λ (d : TransferDirection). handCells d (a .n) (a .i) (a .w .now)) (sym (c .before .before .before .before .enum-told2 .given .1))
+
+pub hand-over-one-spec : {M : Type 1} → statement M
+hand-over-one-spec =
+    tie.close
+    (tie.spec
+    enum-told
+    give-back-requires
+    enum-told-2
+    enqueue-requires
+    same-length
+    returns
+    same-length-2
+    returns-2)

@@ -1,0 +1,68 @@
+-- The split: its starts, and what `new` accepts.
+use Prim.Native.Nat.{ℕ, zero, suc, _+_, _-_, _*_, _/_, _%_, _≤_, _<_}
+use mathlib.Core.Path.{_≡_, refl, sym, _∙_, ap}
+use mathlib.Core.Bool.{Bool, true, false, cond, _&&_}
+use mathlib.Core.List.{List}
+use native.Mathlib.Omega.{arith}
+use native.Mathlib.Nat.{one-mul, add-mul, mul-le-mul-right}
+use borrow.Author.Tests.{ltb-true, ltb-false, leb-true, leb-false, eqb-true, eqb-false, eq-eqb, ne-eqb}
+use lib.Dec.{eqb, leb, ltb}
+use lib.ListN.{getD}
+use Rattle.descriptors.specs.Record.{limit, least, most}
+use Rattle.descriptors.specs.Split.{splitOf, isParts, accepts, startOf, sizeOf}
+use Rattle.descriptors.specs.laws.Tests.{not-both}
+use Rattle.descriptors.specs.declared.split.Split.{Split}
+use Rattle.descriptors.specs.declared.split.Split.the-variants.{Parts, Refused}
+use Rattle.descriptors.specs.declared.refusal.DmaBufError.{DmaBufError}
+
+pub next-start : (i q : ℕ) → (i + 1) * q ≡ i * q + q
+next-start i q = omega (arith, add-mul i 1 q, one-mul q)
+
+pub start-small : (i n q : ℕ) → i < n → n ≤ limit → q ≤ 4095 → i * q + q ≤ limit * 4095 + 4095
+start-small i n q h l m = omega (arith, mul-le-mul-right {m = i} {n = limit} q (omega arith))
+
+-- what `new` accepts: r < chunk is in none of these
+pub record Accepted (n len : ℕ) : Type 0 where
+  pub few : least ≤ n
+  pub many : n ≤ limit
+  pub some : 0 < len / n
+  pub chunk : len / n ≤ most
+  pub last : len / n + len % n ≤ most
+  pub parts : splitOf n len ≡ Parts (len / n) (len % n)
+
+-- a test that is passed over
+skip : (b : Bool) (e : DmaBufError) (x : Split) → isParts (cond b (Refused e) x) ≡ true → (b ≡ false) × (isParts x ≡ true) × (cond b (Refused e) x ≡ x)
+skip true e x h = not-both h
+skip false e x h = (refl, h, refl)
+
+pub accepted : (n len : ℕ) → accepts n len ≡ true → Accepted n len
+unfolding splitOf
+accepted n len h =
+    let a = skip (ltb n least) _ _ h in
+    let b = skip (ltb limit n) _ _ (a .1) in
+    let c = skip (ltb most (len / n)) _ _ (b .1) in
+    let d = skip (eqb (len / n) 0) _ _ (c .1) in
+    let e = skip (leb (len / n) (len % n)) _ _ (d .1) in
+    let f = skip (ltb most (len / n + len % n)) _ _ (e .1) in
+    record {
+      few = ltb-false n least (a .0);
+      many = ltb-false limit n (b .0);
+      some = omega (arith, eqb-false (len / n) 0 (d .0));
+      chunk = ltb-false most (len / n) (c .0);
+      last = ltb-false most (len / n + len % n) (f .0);
+      parts = a .2 ∙ b .2 ∙ c .2 ∙ d .2 ∙ e .2 ∙ f .2;
+    }
+
+pub record Known (n len chunk rest : ℕ) : Type 0 where
+  pub takes : accepts n len ≡ true
+  pub facts : Accepted n len
+  pub chunk-is : chunk ≡ len / n
+  pub rest-is : rest ≡ len % n
+
+-- what the answer of `split_of` tells
+pub parts-known : (n len chunk rest : ℕ) → splitOf n len ≡ Parts chunk rest → Known n len chunk rest
+parts-known n len chunk rest e =
+    let t : accepts n len ≡ true = ap isParts e in
+    let a = accepted n len t in
+    let q = a .parts in
+    record { takes = t; facts = a; chunk-is = cc; rest-is = cc }

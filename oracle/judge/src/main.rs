@@ -1,0 +1,100 @@
+//! The judge: holds our library against the Rust's own text and against document 01's rules.
+
+mod differences;
+mod mutants;
+mod ours;
+mod report;
+mod rng;
+mod rules;
+mod runner;
+mod runs;
+mod sample;
+mod selftest;
+mod states;
+
+use std::process::ExitCode;
+use std::time::Instant;
+
+use rng::Rng;
+use runner::Runner;
+use runs::{LONG, QUICK, RUNS, Size};
+
+const SEED: u64 = 0x0120_2201;
+
+struct Options {
+    size: Size,
+    seed: u64,
+    shape: esp::Shape,
+    task: Task,
+}
+
+enum Task {
+    Compare,
+    Items,
+    Selftest,
+    Sample(String),
+    Replay(String),
+}
+
+fn options() -> Result<Options, String> {
+    let mut options = Options { size: LONG, seed: SEED, shape: esp::Shape::Plain, task: Task::Compare };
+    let mut args = std::env::args().skip(1);
+    while let Some(arg) = args.next() {
+        match arg.as_str() {
+            "--quick" => options.size = QUICK,
+            "--bits" => options.shape = esp::Shape::Bits,
+            "--items" => options.task = Task::Items,
+            "--selftest" => options.task = Task::Selftest,
+            "--replay" => options.task = Task::Replay(args.next().ok_or("--replay wants a file's name")?),
+            "--sample" => options.task = Task::Sample(args.next().ok_or("--sample wants a file's name")?),
+            "--seed" => options.seed = args.next().and_then(|s| s.parse().ok()).ok_or("--seed wants a number")?,
+            other => return Err(format!("unknown option {other}")),
+        }
+    }
+    Ok(options)
+}
+
+fn main() -> ExitCode {
+    let options = match options() {
+        Ok(options) => options,
+        Err(why) => {
+            eprintln!("judge: {why}");
+            return ExitCode::from(2);
+        }
+    };
+    // The Rust's panics are answers here, not news.
+    if std::env::var_os("LOUD").is_none() { std::panic::set_hook(Box::new(|_| {})); }
+    match options.task {
+        Task::Compare => compare(&options),
+        Task::Selftest => selftest::run(options.seed),
+        Task::Replay(ref file) => sample::replay::run(file),
+        Task::Sample(ref file) => sample::write(file, options.seed),
+        Task::Items => {
+            report::items();
+            ExitCode::SUCCESS
+        }
+    }
+}
+
+fn compare(options: &Options) -> ExitCode {
+    report::sources();
+    let mut runner = Runner::new(esp::voice(options.shape), ours::voice());
+    if runner.ours.is_none() {
+        println!("our library is not linked: the Rust is held against the rules of document 01 alone");
+    }
+    println!("seed {}, records of the Rust: {:?}", options.seed, options.shape);
+    let rng = Rng::new(options.seed);
+    for (name, run) in RUNS {
+        let (start, before) = (Instant::now(), runner.comparisons());
+        run(&mut runner, options.size, &rng);
+        println!("{name}: {} comparisons, {:.1} s", runner.comparisons() - before, start.elapsed().as_secs_f32());
+    }
+    report::counts(&runner);
+    let complete = runner.rust.is_none() || report::differences(&runner);
+    report::mismatch(&runner);
+    if runner.mismatches > 0 || !complete {
+        return ExitCode::from(1);
+    }
+    println!("no mismatch");
+    ExitCode::SUCCESS
+}

@@ -1,0 +1,42 @@
+//! The runs, each over one kind of input.
+
+mod aligned;
+mod device;
+mod documents;
+mod fresh;
+mod pieces;
+mod receive;
+mod refusals;
+mod sequences;
+mod transmit;
+mod wide;
+
+use crate::rng::Rng;
+use crate::runner::Runner;
+
+/// How much is run. `scale` multiplies the random runs, `states` bounds the exhaustive ones for each shape.
+#[derive(Clone, Copy)]
+pub struct Size {
+    pub scale: usize,
+    pub states: usize,
+}
+
+pub const QUICK: Size = Size { scale: 1, states: 21_000 };
+/// For planted faults, which want no more than this.
+pub const SMALL: Size = Size { scale: 1, states: 300 };
+pub const LONG: Size = Size { scale: 8, states: 340_000 };
+
+pub type Run = fn(&mut Runner, Size, &Rng);
+
+pub const RUNS: &[(&str, Run)] = &[
+    ("the documents' own examples", documents::run),
+    ("new and prepare", fresh::run),
+    ("receive, small states exhaustively", receive::run),
+    ("transmit, small states exhaustively", transmit::run),
+    ("device steps", device::run),
+    ("unsound states and refusals", refusals::run),
+    ("alignment", aligned::run),
+    ("head and tail", pieces::run),
+    ("wide states, up to 64 records of 4095 bytes", wide::run),
+    ("sequences from new and prepare", sequences::run),
+];
