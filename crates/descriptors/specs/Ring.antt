@@ -1,6 +1,7 @@
 -- "A ring has n records .., one lent byte buffer, and a cursor (record, offset). The ring also keeps a 32-bit tally" and a prefilled
 -- count. The buffer stands beside it: a rule asks for its length, or for its bytes.
-use Prim.Native.Nat.{ℕ, zero, suc, _+_}
+use Prim.Native.Nat.{ℕ, zero, suc, _+_, _-_, _%_, _^_}
+use mathlib.Core.Path.{_≡_}
 use mathlib.Core.Bool.{Bool, true, false, cond, _&&_, _||_}
 use mathlib.Core.List.{List}
 use lib.Dec.{eqb, leb, ltb}
@@ -20,6 +21,7 @@ use Rattle.descriptors.specs.declared.refusal.Done.the-variants.{Ready, 
 use Rattle.descriptors.specs.declared.split.Split.{Split}
 use Rattle.descriptors.specs.declared.split.Split.the-variants as split
 use Rattle.descriptors.specs.declared.ring.Head.{Head}
+use Rattle.descriptors.specs.declared.ring.Headed.{Headed}
 
 pub record Ring : Type 0 where
   pub descriptors : List DmaDescriptor
@@ -120,6 +122,21 @@ newBy dir ds n len (split.Refused e) = refused (fresh ds n) (Refused e)
 
 unfoldable pub newOf : TransferDirection → List DmaDescriptor → ℕ → ℕ → Outcome Done
 newOf dir ds n len = newBy dir ds n len (splitOf n len)
+
+abbrev pub splitDone : Split → Done
+splitDone (split.Parts chunk rest) = Ready
+splitDone (split.Refused e) = Refused e
+
+-- what `new` makes of lent words: every word and the head are those of the ring that comes back
+pub record NewIn (dir : TransferDirection) (st ws : List ℕ) (n len : ℕ) (st′ ws′ : List ℕ) (r : Headed) : Type 0 where
+  pub starts : st′ ≡ startsNow st ws (newOf dir (recordsOf st ws) n len .ring .descriptors)
+  pub cells : ws′ ≡ cellsNow st ws (newOf dir (recordsOf st ws) n len .ring .descriptors)
+  pub head : r .head ≡ headOf (newOf dir (recordsOf st ws) n len .ring)
+  pub answer : r .answer ≡ newOf dir (recordsOf st ws) n len .answer
+
+-- "wrapping subtract between two readings"
+abbrev pub betweenOf : ℕ → ℕ → ℕ
+betweenOf earlier later = (later + (2 ^ 32 - earlier)) % 2 ^ 32
 
 unfoldable pub linkedAll : TransferDirection → ℕ → List DmaDescriptor → List DmaDescriptor
 linkedAll dir n ds = upTo (λ i s. update s i (linked dir n i)) n ds

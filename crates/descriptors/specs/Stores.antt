@@ -29,6 +29,9 @@ linkCells Out n i ws = putOwner (putNext ws i (following n i)) i Dma
 unfoldable pub layStart : ℕ → ℕ → ℕ → List ℕ → List ℕ
 layStart n len i st = putStart st i (startOf n len i)
 
+abbrev pub laySize : TransferDirection → ℕ → ℕ → ℕ → List ℕ → List ℕ
+laySize In i size chunk ws = putSize ws i size
+laySize Out i size chunk ws = putLength (putSize ws i size) i chunk
+
 unfoldable pub layCells : TransferDirection → ℕ → ℕ → ℕ → List ℕ → List ℕ
-layCells In n len i ws = putSize ws i (sizeOf n len i)
-layCells Out n len i ws = putLength (putSize ws i (sizeOf n len i)) i (len / n)
+layCells dir n len i ws = laySize dir i (sizeOf n len i) (len / n) ws

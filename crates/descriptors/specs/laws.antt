@@ -8,4 +8,5 @@ pub mod Words
 pub mod Stores
 pub mod Splits
 pub mod Sound
+pub mod New
 pub mod Walks

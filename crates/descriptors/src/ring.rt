@@ -1,16 +1,16 @@
 // A ring without its records, and what is sound. Each scan has one test and one flag, and no way out before the end: so it is done
 // on many records at a time.
 ghost use mathlib.Core.Path.{_≡_};
-ghost use mathlib.Core.Bool.{true, _&&_, _||_};
-ghost use Prim.Native.Nat.{_+_, _-_, _*_, _≤_, _<_};
+ghost use mathlib.Core.Bool.{true, cond, _&&_, _||_};
+ghost use Prim.Native.Nat.{_+_, _-_, _*_, _/_, _%_, _≤_, _<_};
 ghost use mathlib.Core.List.{[]};
 ghost use lib.Dec.{eqb, leb, ltb};
 ghost use lib.ListN.{getD, length};
 ghost use Rattle.descriptors.specs.Record.{limit, upTo};
-ghost use Rattle.descriptors.specs.Cells.{cells, recordAt, allBelow, areRecords, recordsOf, startsNow, cellsNow};
-ghost use Rattle.descriptors.specs.Split.{accepts, startOf, sizeOf};
-ghost use Rattle.descriptors.specs.Stores.{layStart, layCells};
-ghost use Rattle.descriptors.specs.Ring.{ringOf, headOf, offsetOk, sound, splitSound, judged, newOf};
+ghost use Rattle.descriptors.specs.Cells.{cells, recordAt, allBelow, areRecords};
+ghost use Rattle.descriptors.specs.Split.{splitOf};
+ghost use Rattle.descriptors.specs.Stores.{layStart, laySize, layCells};
+ghost use Rattle.descriptors.specs.Ring.{ringOf, headOf, offsetOk, sound, splitSound, judged, splitDone, NewIn, betweenOf};
 use crate::cells;
 use crate::cells::CELLS;
 use crate::record::LIMIT;
@@ -217,4 +217,104 @@ pub fn judge<'a>(dir: TransferDirection, s: &'a [u32], w: &'a [u16], h: Head, le
         return Done::Refused(DmaBufError::BadState);
     }
     Done::Ready
+}
+
+// ---- new
+
+fn fresh(n: usize) -> Head
+    ensures { λ r. ⌜ r ≡ record { count = n; «descriptor_idx» = 0; «descriptor_offset» = 0; tally = 0; «pre_filled» = 0 } ⌝ }
+{
+    Head {
+        count: n,
+        descriptor_idx: 0,
+        descriptor_offset: 0,
+        tally: 0,
+        pre_filled: 0,
+    }
+}
+
+fn lay_starts(s: &mut [u32], n: usize, len: usize, chunk: usize)
+    requires { ⌜ (n ≤ limit) × (chunk ≤ 4095) × (chunk ≡ len / n) ⌝ }
+    ensures { λ _. ⌜ now (s .exit) ≡ upTo (layStart n len) n (now (s .entry)) ⌝ }
+{
+    let step = chunk as u32;
+    let mut start: u32 = 0;
+    let mut i: usize = 0;
+    while i < n {
+        cells::set_buffer(s, i, start);
+        start += step;
+        i += 1;
+    }
+}
+
+fn lay_size(w: &mut [u16], dir: TransferDirection, i: usize, size: u16, chunk: u16)
+    ensures { λ _. ⌜ now (w .exit) ≡ laySize dir i size chunk (now (w .entry)) ⌝ }
+{
+    cells::set_size(w, i, size);
+    if !walk::receives(dir) {
+        cells::set_length(w, i, chunk);
+    }
+}
+
+fn size_at(n: usize, i: usize, chunk: usize, rest: usize) -> u16
+    requires { ⌜ (i < n) × (chunk + rest ≤ 4095) ⌝ }
+    ensures { λ r. ⌜ r ≡ cond (eqb (i + 1) n) (chunk + rest) chunk ⌝ }
+{
+    if i + 1 == n {
+        return (chunk + rest) as u16;
+    }
+    chunk as u16
+}
+
+fn lay_sizes(w: &mut [u16], dir: TransferDirection, n: usize, len: usize, chunk: usize, rest: usize)
+    requires { ⌜ (n ≤ limit) × (chunk + rest ≤ 4095) × (chunk ≡ len / n) × (rest ≡ len % n) ⌝ }
+    ensures { λ _. ⌜ now (w .exit) ≡ upTo (layCells dir n len) n (now (w .entry)) ⌝ }
+{
+    let mut i: usize = 0;
+    while i < n {
+        let size = size_at(n, i, chunk, rest);
+        lay_size(w, dir, i, size, chunk as u16);
+        i += 1;
+    }
+}
+
+fn refused_by(parts: Split) -> Done
+    ensures { λ r. ⌜ r ≡ splitDone parts ⌝ }
+{
+    match parts {
+        Split::Parts { chunk: _, rest: _ } => Done::Ready,
+        Split::Refused(e) => Done::Refused(e),
+    }
+}
+
+// Both `new`s: the buffer's len bytes split over the first n of the lent records.
+pub fn new_in(dir: TransferDirection, s: &mut [u32], w: &mut [u16], n: usize, len: usize) -> Headed
+    ensures { λ r. ⌜ NewIn dir (now (s .entry)) (now (w .entry)) n len (now (s .exit)) (now (w .exit)) r ⌝ }
+{
+    let parts = split::split_of(n, len);
+    let Split::Parts { chunk, rest } = parts else {
+        return Headed {
+            head: fresh(n),
+            answer: refused_by(parts),
+        };
+    };
+    if !are_records(s, w) {
+        return Headed {
+            head: fresh(n),
+            answer: Done::Refused(DmaBufError::BadState),
+        };
+    }
+    lay_starts(s, n, len, chunk);
+    lay_sizes(w, dir, n, len, chunk, rest);
+    Headed {
+        head: fresh(n),
+        answer: Done::Ready,
+    }
+}
+
+// The bytes between an earlier reading of a tally and a later one.
+pub fn between(earlier: u32, later: u32) -> u32
+    ensures { λ r. ⌜ r ≡ betweenOf earlier later ⌝ }
+{
+    std::num::wrapping_sub_u32(later, earlier)
 }

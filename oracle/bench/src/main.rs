@@ -1,1 +1,76 @@
-fn main(){}
+//! The timing driver: every side does the same task in turn, many rounds, and the least of each counts.
+
+mod ours;
+mod tasks;
+
+use std::time::Instant;
+
+use state::Side;
+use tasks::{LENGTH, RECORDS, Task};
+
+const ROUNDS: usize = 2_000;
+
+/// Nanoseconds a call, and the calls made.
+#[derive(Clone, Copy)]
+struct Least {
+    nanos: f64,
+    calls: usize,
+}
+
+fn once(task: &mut Task, side: &mut dyn Side) -> Least {
+    (task.set_up)(side);
+    let start = Instant::now();
+    let calls = (task.run)(side);
+    let nanos = start.elapsed().as_nanos() as f64 / calls as f64;
+    Least { nanos, calls }
+}
+
+fn rounds(task: &mut Task, sides: &mut [Box<dyn Side>]) -> Vec<Least> {
+    let mut least: Vec<Least> = sides.iter_mut().map(|side| once(task, side.as_mut())).collect();
+    for _ in 1..ROUNDS {
+        for (least, side) in least.iter_mut().zip(sides.iter_mut()) {
+            let this = once(task, side.as_mut());
+            assert_eq!(least.calls, this.calls, "{}: a round that differs from the first", task.name);
+            least.nanos = least.nanos.min(this.nanos);
+        }
+    }
+    let calls = least[0].calls;
+    assert!(least.iter().all(|side| side.calls == calls), "{}: the sides differ in their number of calls", task.name);
+    least
+}
+
+/// Ratios to the first side, then nanoseconds a call.
+fn row(name: &str, least: &[Least]) -> String {
+    let ratios: String = least[1..].iter().map(|side| format!(" {:.2} |", side.nanos / least[0].nanos)).collect();
+    let times: String = least.iter().map(|side| format!(" {:.1} |", side.nanos)).collect();
+    format!("| {name} |{ratios}{times} {} |", least[0].calls)
+}
+
+fn header(sides: &[Box<dyn Side>]) -> String {
+    let first = sides[0].name();
+    let ratios: String = sides[1..].iter().map(|side| format!(" {} / {first} |", side.name())).collect();
+    let times: String = sides.iter().map(|side| format!(" {}, ns a call |", side.name())).collect();
+    let columns = 2 * sides.len() + 1;
+    format!("| task |{ratios}{times} calls |\n|{}", "---|".repeat(columns))
+}
+
+fn main() {
+    let mut sides = esp::sides(RECORDS, LENGTH);
+    if sides.is_empty() {
+        println!("the Rust's text is absent ({}): nothing is timed against it", esp::WHY);
+    }
+    let mine = ours::sides(RECORDS, LENGTH);
+    if mine.is_empty() {
+        println!("our library is not linked: only the Rust is timed");
+    }
+    sides.extend(mine);
+    if sides.is_empty() {
+        return;
+    }
+    println!("{RECORDS} records over {LENGTH} bytes, {ROUNDS} rounds in turn, the least of each\n");
+    println!("{}", header(&sides));
+    for mut task in tasks::all() {
+        let least = rounds(&mut task, &mut sides);
+        println!("{}", row(&task.name, &least));
+    }
+}

@@ -7,7 +7,7 @@
 mod burst;
 mod device;
 mod error;
-mod library;
+pub mod library;
 mod list;
 mod psram;
 mod ring;

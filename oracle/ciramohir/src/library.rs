@@ -7,6 +7,7 @@
 pub const LINKED: bool = cfg!(linked);
 
 /// What every call answers where it is not.
+#[cfg(not(linked))]
 pub const NOT_LINKED: u32 = u32::MAX;
 
 macro_rules! library {

@@ -48,6 +48,11 @@ impl DescriptorList {
         self.count
     }
 
+    /// The words themselves: starts, and the five blocks of cells.
+    pub fn words_mut(&mut self) -> (&mut [u32; LIMIT], &mut [u16; 5 * LIMIT]) {
+        (&mut self.starts, &mut self.cells)
+    }
+
     pub fn get(&self, i: usize) -> DmaDescriptor {
         DmaDescriptor {
             buffer: self.starts[i],

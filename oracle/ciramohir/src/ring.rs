@@ -30,6 +30,10 @@ impl<'a> Ring<'a> {
         Ring { head, list, buffer }
     }
 
+    pub fn with_words(list: &'a mut DescriptorList, buffer: &'a mut [u8], head: [u64; 5]) -> Self {
+        Ring { head, list, buffer }
+    }
+
     pub fn head(&self) -> Head {
         let [count, idx, offset, tally, pre_filled] = self.head;
         Head {

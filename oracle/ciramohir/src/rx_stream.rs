@@ -50,6 +50,16 @@ impl<'a> DmaRxStreamBufView<'a> {
         DmaRxStreamBufView { ring: Ring::with_head(descriptors, buffer, head) }
     }
 
+    /// Any words at all, with the head's five as the library reads them.
+    pub fn from_words(descriptors: &'a mut DescriptorList, buffer: &'a mut [u8], head: [u64; 5]) -> Self {
+        DmaRxStreamBufView { ring: Ring::with_words(descriptors, buffer, head) }
+    }
+
+    /// The head's five words: count, record, offset, tally, prefilled.
+    pub fn head_words(&self) -> [u64; 5] {
+        self.ring.head
+    }
+
     pub fn head(&self) -> Head {
         self.ring.head()
     }

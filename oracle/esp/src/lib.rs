@@ -23,6 +23,11 @@ pub(crate) use shims::trm_markdown_link;
 #[cfg(esp_text)]
 pub use voice::{external_alignment, sides, voice};
 
+/// Whether a panic in this file is the text's own.
+pub fn is_text(file: &str) -> bool {
+    file.starts_with(env!("OUT_DIR"))
+}
+
 /// How the records are laid out under the text: flags as plain fields, or packed in 32 bits as on the chip.
 #[derive(Clone, Copy, PartialEq, Eq, Debug)]
 pub enum Shape {

@@ -62,8 +62,7 @@ fn main() -> ExitCode {
             return ExitCode::from(2);
         }
     };
-    // The Rust's panics are answers here, not news.
-    if std::env::var_os("LOUD").is_none() { std::panic::set_hook(Box::new(|_| {})); }
+    keep_quiet_about_the_text();
     match options.task {
         Task::Compare => compare(&options),
         Task::Selftest => selftest::run(options.seed),
@@ -76,11 +75,21 @@ fn main() -> ExitCode {
     }
 }
 
+/// The text's panics are answers here, not news; all others are told.
+fn keep_quiet_about_the_text() {
+    let told = std::panic::take_hook();
+    std::panic::set_hook(Box::new(move |panic| {
+        if !panic.location().is_some_and(|place| esp::is_text(place.file())) {
+            told(panic);
+        }
+    }));
+}
+
 fn compare(options: &Options) -> ExitCode {
     report::sources();
     let mut runner = Runner::new(esp::voice(options.shape), ours::voice());
     if runner.ours.is_none() {
-        println!("our library is not linked: the Rust is held against the rules of document 01 alone");
+        println!("our library is not linked: no call of ours was compared");
     }
     println!("seed {}, records of the Rust: {:?}", options.seed, options.shape);
     let rng = Rng::new(options.seed);
@@ -95,6 +104,6 @@ fn compare(options: &Options) -> ExitCode {
     if runner.mismatches > 0 || !complete {
         return ExitCode::from(1);
     }
-    println!("no mismatch");
+    println!("{}", if runner.comparisons() > 0 { "no mismatch" } else { "nothing was compared" });
     ExitCode::SUCCESS
 }

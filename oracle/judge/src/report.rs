@@ -7,7 +7,7 @@ use crate::runner::Runner;
 
 pub fn sources() {
     if !esp::AVAILABLE {
-        println!("the Rust's text is absent ({}): nothing was compared with the Rust; the rules of document 01 stand alone", esp::WHY);
+        println!("the Rust's text is absent ({}): no call was compared with the Rust, no listed difference was shown", esp::WHY);
         return;
     }
     for (file, sum) in esp::FILES {

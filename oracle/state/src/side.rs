@@ -18,9 +18,9 @@ pub trait Side {
     /// The caller keeps within what is available.
     fn advance(&mut self, k: usize);
 
+    /// Each of these begins on a ring set up beforehand, and answers the calls that moved something.
     fn drain_by_pop(&mut self, destination: &mut [u8]) -> usize {
-        self.fill();
-        let mut calls = 1;
+        let mut calls = 0;
         while self.pop(destination) > 0 {
             calls += 1;
         }
@@ -28,8 +28,7 @@ pub trait Side {
     }
 
     fn drain_by_consume(&mut self, request: usize) -> usize {
-        self.fill();
-        let mut calls = 1;
+        let mut calls = 0;
         while self.consume(request) > 0 {
             calls += 1;
         }
@@ -37,16 +36,14 @@ pub trait Side {
     }
 
     fn fill_by_push(&mut self, data: &[u8]) -> usize {
-        self.clear();
-        let mut calls = 1;
-        while self.push(data) == data.len() {
+        let mut calls = 0;
+        while self.push(data) > 0 {
             calls += 1;
         }
         calls
     }
 
     fn fill_by_advance(&mut self, request: usize, total: usize) -> usize {
-        self.clear();
         let calls = total / request;
         for _ in 0..calls {
             self.advance(request);

@@ -7,16 +7,16 @@ use native.Mathlib.Omega.{arith}
 use native.Mathlib.Numerals.{add-one}
 use borrow.Author.Tests.{lt-ltb, eqb-false}
 use lib.Dec.{eqb}
-use Rattle.descriptors.specs.Record.{limit, recordIn, update, upTo, withOwner, withEof, withLength, withNext, withSize, withBuffer, given, queued, following, linked, handed}
+use Rattle.descriptors.specs.Record.{limit, isIn, recordIn, update, upTo, withOwner, withEof, withLength, withNext, withSize, withBuffer, given, queued, following, linked, handed}
 use Rattle.descriptors.specs.Place.{before, turns}
 use Rattle.descriptors.specs.Cells.{cell, recordAt, areRecords, recordsOf, numbered, putStart, putSize, putLength, putEof, putOwner, putNext}
 use Rattle.descriptors.specs.Split.{startOf, sizeOf, laid, lengthAs, laidOut}
-use Rattle.descriptors.specs.Stores.{handedCells, handCells, linkCells, layStart, layCells}
+use Rattle.descriptors.specs.Stores.{handedCells, handCells, linkCells, layStart, laySize, layCells}
 use Rattle.descriptors.specs.Ring.{linkedAll}
 use Rattle.descriptors.specs.Walk.{handOver}
-use Rattle.descriptors.specs.laws.Places.{before-lt}
-use Rattle.descriptors.specs.laws.Updates.{update-twice, update-length, up-none, up-more}
-use Rattle.descriptors.specs.laws.Lifts.{Becomes, Lifts, record-is, size-lifts, length-lifts, eof-lifts, owner-lifts, next-lifts, start-changes, lifts-then, lifts-as, lifts-up, lifts-turns}
+use Rattle.descriptors.specs.laws.Tests.{not-both}
+use Rattle.descriptors.specs.laws.Updates.{update-twice, each, two-passes}
+use Rattle.descriptors.specs.laws.Lifts.{Becomes, Lifts, record-is, records-length, size-lifts, length-lifts, eof-lifts, owner-lifts, next-lifts, start-changes, lifts-then, lifts-as, lifts-up, lifts-turns}
 use Rattle.descriptors.specs.declared.record.Owner.{Owner}
 use Rattle.descriptors.specs.declared.record.Owner.the-variants.{Cpu, Dma}
 use Rattle.descriptors.specs.declared.record.Next.{Next}
@@ -93,3 +93,41 @@ link-lifts Out st n i h m =
 pub all-linked : (dir : TransferDirection) (st : List ℕ) (n : ℕ) → n ≤ limit → Lifts st (upTo (linkCells dir n) n) (linkedAll dir n)
 unfolding linkedAll
 all-linked dir st n m = lifts-up st (linkCells dir n) (λ i s. update s i (linked dir n i)) n (λ i h. link-lifts dir st n i h m)
+
+-- ---- the split laid out: the starts in one pass, the other cells in another
+
+starts-laid : (st ws : List ℕ) (n len k : ℕ) → areRecords st ws ≡ true
+    → (areRecords (upTo (layStart n len) k st) ws ≡ true) × (recordsOf (upTo (layStart n len) k st) ws ≡ each (λ i. withBuffer (startOf n len i)) k (recordsOf st ws))
+unfolding upTo layStart
+starts-laid st ws n len zero a = (a, refl)
+starts-laid st ws n len (suc k) a =
+    let b = starts-laid st ws n len k a in
+    let d = start-changes (upTo (layStart n len) k st) ws k (startOf n len k) (b .0) in
+    (d .0, d .1 ∙ ap (λ (ds : List DmaDescriptor). update ds k (withBuffer (startOf n len k))) (b .1))
+
+lay-lifts : (dir : TransferDirection) (st : List ℕ) (n len i : ℕ) → Lifts st (layCells dir n len i) (λ ds. update ds i (λ d. lengthAs dir n len (withSize (sizeOf n len i) d)))
+unfolding layCells
+lay-lifts In st n len i = size-lifts st i (sizeOf n len i)
+lay-lifts Out st n len i =
+    lifts-more st (λ ws. putSize ws i (sizeOf n len i)) (λ ws. putLength ws i (len / n)) i (withSize (sizeOf n len i)) (withLength (len / n)) (size-lifts st i (sizeOf n len i)) (length-lifts st i (len / n))
+
+pub all-laid : (dir : TransferDirection) (st ws : List ℕ) (n len : ℕ) → areRecords st ws ≡ true → n ≤ limit
+    → (areRecords (upTo (layStart n len) n st) (upTo (layCells dir n len) n ws) ≡ true)
+    × (recordsOf (upTo (layStart n len) n st) (upTo (layCells dir n len) n ws) ≡ laidOut dir n len (recordsOf st ws))
+unfolding laidOut
+all-laid dir st ws n len a m =
+    let st′ : List ℕ = upTo (layStart n len) n st in
+    let b = starts-laid st ws n len n a in
+    let c = lifts-up st′ (layCells dir n len) (λ i s. update s i (λ d. lengthAs dir n len (withSize (sizeOf n len i) d))) n (λ i l. lay-lifts dir st′ n len i) ws (b .0) in (
+      c .0,
+      c .1 ∙ ap (each (λ i d. lengthAs dir n len (withSize (sizeOf n len i) d)) n) (b .1)
+          ∙ two-passes (λ i. withBuffer (startOf n len i)) (λ i d. lengthAs dir n len (withSize (sizeOf n len i) d)) n (recordsOf st ws) (omega (arith, records-length st ws a)),
+    )
+
+pub lay-in : (dir : TransferDirection) (i size chunk : ℕ) (ws : List ℕ) → isIn dir ≡ true → putSize ws i size ≡ laySize dir i size chunk ws
+lay-in In i size chunk ws h = refl
+lay-in Out i size chunk ws h = not-both h
+
+pub lay-out : (dir : TransferDirection) (i size chunk : ℕ) (ws : List ℕ) → isIn dir ≡ false → putLength (putSize ws i size) i chunk ≡ laySize dir i size chunk ws
+lay-out In i size chunk ws h = not-both (sym h)
+lay-out Out i size chunk ws h = refl

@@ -6,7 +6,7 @@ use native.Mathlib.Omega.{arith}
 use native.Mathlib.Numerals.{add-one}
 use native.Mathlib.Decide.{decLt}
 use lib.ListN.{getD, set, length, length-set}
-use lib.Seq.{getD-set-same, getD-set-other, set-set, set-out}
+use lib.Seq.{getD-set-same, getD-set-other, set-set, set-out, ext-getD}
 use Rattle.descriptors.specs.Record.{blank, recordIn, update, upTo}
 use Rattle.descriptors.specs.declared.record.DmaDescriptor.{DmaDescriptor}
 
@@ -65,3 +65,18 @@ module _ (f : ℕ → DmaDescriptor → DmaDescriptor) where
       go (no k) ih =
           let e : j ≡ n = omega arith in
           rw e (update-same (each n ds) n (f n) (omega (arith, each-length n ds)) ∙ ap (f n) (each-above n ds n (omega arith)))
+
+-- two passes over the records are one
+pub two-passes : (f g : ℕ → DmaDescriptor → DmaDescriptor) (n : ℕ) (ds : List DmaDescriptor) → n ≤ length ds
+    → each g n (each f n ds) ≡ each (λ i d. g i (f i d)) n ds
+two-passes f g n ds h =
+    ext-getD blank (each g n (each f n ds)) (each (λ i d. g i (f i d)) n ds)
+    (each-length g n (each f n ds) ∙ each-length f n ds ∙ sym (each-length (λ i d. g i (f i d)) n ds))
+    (λ j p. at j (decLt j n))
+  where
+    at : (j : ℕ) → Dec (j < n) → recordIn (each g n (each f n ds)) j ≡ recordIn (each (λ i d. g i (f i d)) n ds) j
+    at j (yes l) =
+        each-at g n (each f n ds) j l (omega (arith, each-length f n ds)) ∙ ap (g j) (each-at f n ds j l h) ∙ sym (each-at (λ i d. g i (f i d)) n ds j l h)
+    at j (no l) =
+        let m : n ≤ j = omega arith in
+        each-above g n (each f n ds) j m ∙ each-above f n ds j m ∙ sym (each-above (λ i d. g i (f i d)) n ds j m)

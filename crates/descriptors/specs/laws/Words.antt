@@ -100,3 +100,19 @@ cells-same st ws = go (areRecords st ws) refl
     go : (b : Bool) → areRecords st ws ≡ b → ws ≡ cond b (cellsOf (recordsOf st ws)) ws
     go true e = rw (records-tab st ws e) (sym (cells-kept st ws (words st ws e)))
     go false e = refl
+
+-- the same where the starts were written too
+pub words-are : (st ws st′ vs : List ℕ) (ds : List DmaDescriptor) → areRecords st ws ≡ true → areRecords st′ vs ≡ true → recordsOf st′ vs ≡ ds
+    → (st′ ≡ startsNow st ws ds) × (vs ≡ cellsNow st ws ds)
+unfolding startsNow cellsNow
+words-are st ws st′ vs ds a b e =
+    let w = words st′ vs b in
+    (rw (a, ← e, records-tab st′ vs b) (sym (starts-kept st′ vs w)), rw (a, ← e, records-tab st′ vs b) (sym (cells-kept st′ vs w)))
+
+pub starts-same : (st ws : List ℕ) → st ≡ startsNow st ws (recordsOf st ws)
+unfolding startsNow
+starts-same st ws = go (areRecords st ws) refl
+  where
+    go : (b : Bool) → areRecords st ws ≡ b → st ≡ cond b (startsOf (recordsOf st ws)) st
+    go true e = rw (records-tab st ws e) (sym (starts-kept st ws (words st ws e)))
+    go false e = refl

@@ -10,6 +10,7 @@ mod refusals;
 mod sequences;
 mod transmit;
 mod wide;
+mod words;
 
 use crate::rng::Rng;
 use crate::runner::Runner;
@@ -35,6 +36,7 @@ pub const RUNS: &[(&str, Run)] = &[
     ("transmit, small states exhaustively", transmit::run),
     ("device steps", device::run),
     ("unsound states and refusals", refusals::run),
+    ("words that are no ring (ours alone)", words::run),
     ("alignment", aligned::run),
     ("head and tail", pieces::run),
     ("wide states, up to 64 records of 4095 bytes", wide::run),

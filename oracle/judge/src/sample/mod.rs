@@ -17,7 +17,11 @@ use script::Script;
 /// Writes FILE.in and FILE.out. Every answer is checked against the Rust on the way: a mark in FILE.in says which
 /// voice each comes from.
 pub fn write(file: &str, seed: u64) -> ExitCode {
-    let mut script = Script::new(esp::voice(esp::Shape::Plain));
+    let Some(rust) = esp::voice(esp::Shape::Plain) else {
+        println!("the Rust's text is absent ({}): the stored sample stays as it is", esp::WHY);
+        return ExitCode::SUCCESS;
+    };
+    let mut script = Script::new(rust);
     let rng = Rng::new(seed);
     edges::write(&mut script);
     fresh::write(&mut script);

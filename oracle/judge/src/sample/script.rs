@@ -12,11 +12,11 @@ pub struct Script {
     pub cases: usize,
     pub from_rust: usize,
     pub parted: usize,
-    rust: Option<Box<dyn Voice>>,
+    rust: Box<dyn Voice>,
 }
 
 impl Script {
-    pub fn new(rust: Option<Box<dyn Voice>>) -> Script {
+    pub fn new(rust: Box<dyn Voice>) -> Script {
         let ring = State::blank(Direction::Receive, 0, 0);
         let (input, output) = (String::new(), String::new());
         Script { ring, input, output, cases: 0, from_rust: 0, parted: 0, rust }
@@ -97,7 +97,6 @@ impl Script {
 
     /// `rust` where the Rust was asked and answers this; else `ours`, with the difference's name where there is one.
     fn ask_rust(&mut self, call: &Call, before: &State, answer: Answer, after: &State) -> String {
-        let Some(rust) = &mut self.rust else { return "ours: the Rust is absent".into() };
         let mut expected = after.clone();
         let verdict = expect(call, before, answer, &mut expected);
         let (want, mark) = match verdict {
@@ -106,7 +105,7 @@ impl Script {
             Verdict::Listed(name, answer) => (answer, format!("ours: {name}")),
         };
         let mut seen = before.clone();
-        let got = rust.call(call, &mut seen);
+        let got = self.rust.call(call, &mut seen);
         (seen.tally, seen.device) = (expected.tally, expected.device);
         if got != want || (want != Answer::Panicked && seen != expected) {
             self.parted += 1;
