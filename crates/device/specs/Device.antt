@@ -7,7 +7,9 @@ use lib.Dec.{eqb, leb, ltb}
 use lib.ListN.{length, take, drop}
 use lib.Seq.{paste}
 use Rattle.descriptors.specs.Record.{update, closed, sent}
+use Rattle.descriptors.specs.Cells.{putOwner, putEof, putLength}
 use Rattle.descriptors.specs.Ring.{Ring, withRecords, recordOf, sound}
+use Rattle.descriptors.specs.declared.record.Owner.the-variants.{Cpu}
 use Rattle.descriptors.specs.declared.record.Next.{Next}
 use Rattle.descriptors.specs.declared.record.Next.the-variants.{Nothing, At}
 use Rattle.descriptors.specs.declared.record.DmaDescriptor.{DmaDescriptor}
@@ -19,8 +21,9 @@ use Rattle.descriptors.specs.declared.refusal.Counted.{Counted}
 use Rattle.descriptors.specs.declared.refusal.Counted.the-variants as counted
 use Rattle.descriptors.specs.declared.refusal.Done.{Done}
 use Rattle.descriptors.specs.declared.refusal.Done.the-variants as done
-use Rattle.device.specs.declared.Stand.{Stand}
-use Rattle.device.specs.declared.Stand.the-variants as stand
+use Rattle.device.specs.declared.receive.Received.{Received}
+use Rattle.device.specs.declared.stand.Stand.{Stand}
+use Rattle.device.specs.declared.stand.Stand.the-variants as stand
 
 -- what a step answers, and the ring and the device that it leaves
 pub record Stepped (A : Type 0) : Type 0 where
@@ -28,10 +31,14 @@ pub record Stepped (A : Type 0) : Type 0 where
   pub device : Next
   pub answer : A
 
--- "5 comes first, then 7": a ring that is not sound, or a "device's record not below n", is 5; a stopped device is 7
+-- a stopped device is 7, and a "device's record not below n" is 5
+abbrev pub standsOn : ℕ → Next → Stand
+standsOn n Nothing = stand.Refused Stopped
+standsOn n (At i) = cond (ltb i n) (stand.On i) (stand.Refused BadState)
+
+-- "5 comes first, then 7": a ring that is not sound is 5
 abbrev pub standOf : TransferDirection → Ring → ℕ → Next → Stand
-standOf dir r len Nothing = cond (sound dir r len) (stand.Refused Stopped) (stand.Refused BadState)
-standOf dir r len (At i) = cond (sound dir r len && ltb i (r .count)) (stand.On i) (stand.Refused BadState)
+standOf dir r len dev = cond (sound dir r len) (standsOn (r .count) dev) (stand.Refused BadState)
 
 -- ---- the receive step
 
@@ -49,6 +56,18 @@ receiveBy r dev k eof (stand.On i) =
 -- "sets length and EOF, makes it CPU, and moves to next as read at that moment"
 unfoldable pub receiveOf : Ring → Next → ℕ → ℕ → Bool → Stepped Done
 receiveOf r dev len k eof = receiveBy r dev k eof (standOf In r len dev)
+
+-- the answer by itself
+abbrev pub standDone : Stand → Done
+standDone (stand.On i) = done.Ready
+standDone (stand.Refused e) = done.Refused e
+
+abbrev pub receivedOf : Stepped Done → Received
+receivedOf o = record { device = o .device; answer = o .answer }
+
+-- a record closed, store by store
+abbrev pub closeCells : ℕ → ℕ → Bool → List ℕ → List ℕ
+closeCells i k eof ws = putOwner (putEof (putLength ws i k) i eof) i Cpu
 
 -- "A receive step writes its bytes at the start of the record"
 abbrev pub receiveIntoBy : Ring → List ℕ → List ℕ → Stand → List ℕ

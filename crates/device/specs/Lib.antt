@@ -1,1 +1,2 @@
 pub mod Device
+pub mod laws

@@ -1,8 +1,4 @@
-// The device.
-use descriptors::refusal::DmaBufError;
-
-// Where a step finds the device: on a record of a sound ring, or refused.
-pub enum Stand {
-    On(usize),
-    Refused(DmaBufError),
-}
+// The device, as module 5 has it: it stands on a record or is stopped, never looks at the owner, and moves to the next that it reads.
+pub mod stand; // stand.rt: where a step finds the device
+pub mod receive; // receive.rt: the receive step
+pub mod transmit; // transmit.rt: the transmit step

@@ -3,12 +3,14 @@
 mod ours;
 mod tasks;
 
-use std::time::Instant;
+use std::time::{Duration, Instant};
 
 use state::Side;
 use tasks::{LENGTH, RECORDS, Task};
 
+/// So many rounds for each task, or as many as fit its time.
 const ROUNDS: usize = 2_000;
+const BUDGET: Duration = Duration::from_secs(4);
 
 /// Nanoseconds a call, and the calls made.
 #[derive(Clone, Copy)]
@@ -27,7 +29,11 @@ fn once(task: &mut Task, side: &mut dyn Side) -> Least {
 
 fn rounds(task: &mut Task, sides: &mut [Box<dyn Side>]) -> Vec<Least> {
     let mut least: Vec<Least> = sides.iter_mut().map(|side| once(task, side.as_mut())).collect();
+    let start = Instant::now();
     for _ in 1..ROUNDS {
+        if start.elapsed() > BUDGET {
+            break;
+        }
         for (least, side) in least.iter_mut().zip(sides.iter_mut()) {
             let this = once(task, side.as_mut());
             assert_eq!(least.calls, this.calls, "{}: a round that differs from the first", task.name);
@@ -67,7 +73,7 @@ fn main() {
     if sides.is_empty() {
         return;
     }
-    println!("{RECORDS} records over {LENGTH} bytes, {ROUNDS} rounds in turn, the least of each\n");
+    println!("{RECORDS} records over {LENGTH} bytes, up to {ROUNDS} rounds in turn, the least of each\n");
     println!("{}", header(&sides));
     for mut task in tasks::all() {
         let least = rounds(&mut task, &mut sides);

@@ -4,7 +4,7 @@ use mathlib.Core.Path.{_≡_, refl, sym, _∙_, ap}
 use mathlib.Core.Bool.{Bool, true, false, cond, _&&_}
 use mathlib.Core.List.{List}
 use native.Mathlib.Omega.{arith}
-use native.Mathlib.Nat.{one-mul, add-mul, mul-le-mul-right}
+use native.Mathlib.Nat.{one-mul, add-mul, mul-le-mul-right, div-add-mod}
 use borrow.Author.Tests.{ltb-true, ltb-false, leb-true, leb-false, eqb-true, eqb-false, eq-eqb, ne-eqb}
 use lib.Dec.{eqb, leb, ltb}
 use lib.ListN.{getD}
@@ -66,3 +66,35 @@ parts-known n len chunk rest e =
     let a = accepted n len t in
     let q = a .parts in
     record { takes = t; facts = a; chunk-is = cc; rest-is = cc }
+
+-- record i's part lies in the buffer
+pub place-fits : (n len i : ℕ) → i < n → startOf n len i + sizeOf n len i ≤ len
+unfolding startOf sizeOf
+place-fits n len i h = go (eqb (i + 1) n) refl
+  where
+    whole : n * (len / n) + len % n ≡ len
+    whole = div-add-mod len n
+
+    up : (i + 1) * (len / n) ≤ n * (len / n)
+    up = mul-le-mul-right {m = i + 1} {n = n} (len / n) (omega arith)
+
+    go : (b : Bool) → eqb (i + 1) n ≡ b → i * (len / n) + cond b (len / n + len % n) (len / n) ≤ len
+    go true e = omega (arith, up, whole, next-start i (len / n))
+    go false e = omega (arith, up, whole, next-start i (len / n))
+
+-- and is a record's at most
+pub size-most : (n len i : ℕ) → Accepted n len → sizeOf n len i ≤ most
+unfolding sizeOf
+size-most n len i a = go (eqb (i + 1) n)
+  where
+    go : (b : Bool) → cond b (len / n + len % n) (len / n) ≤ most
+    go true = a .last
+    go false = a .chunk
+
+pub size-some : (n len i : ℕ) → Accepted n len → 0 < sizeOf n len i
+unfolding sizeOf
+size-some n len i a = go (eqb (i + 1) n)
+  where
+    go : (b : Bool) → 0 < cond b (len / n + len % n) (len / n)
+    go true = omega (arith, a .some)
+    go false = a .some

@@ -1,0 +1,28 @@
+use borrow.Author.Needs.{needs}
+use Rattle.device.proofs.receive.close.Statement.{statement}
+use Rattle.device.proofs.receive.close.Tie as tie
+use Rattle.device.proofs.receive.close.Reads as reads
+use Rattle.device.proofs.receive.close.Lts as lts
+use Rattle.descriptors.proofs.cells.set_length.Reads as set-length-reads
+use Rattle.descriptors.proofs.cells.set_owner.Reads as set-owner-reads
+use Rattle.descriptors.proofs.cells.set_suc_eof.Reads as set-suc-eof-reads
+
+set-length-requires : tie.Need-set-length-requires
+set-length-requires c κs = search needs
+
+set-suc-eof-requires : tie.Need-set-suc-eof-requires
+set-suc-eof-requires c κs = search needs
+
+set-owner-requires : tie.Need-set-owner-requires
+set-owner-requires c κs = search needs
+
+same-length : tie.Need-same-length
+same-length c = search needs
+
+returns : tie.Need-returns
+returns c = cc
+
+pub close-spec : {M : Type 1} → statement M
+close-spec =
+    tie.close
+    (tie.spec set-length-requires set-suc-eof-requires set-owner-requires same-length returns)

@@ -1,0 +1,2 @@
+-- Theorems about the definitions beside this file, which the proofs of the code cite. Nothing here is to be believed.
+pub mod Steps
