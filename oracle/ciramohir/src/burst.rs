@@ -26,8 +26,15 @@ pub fn ensure_buffer_compatible(regions: &Regions, address: u32, length: u32, di
     // SAFETY: numbers only.
     error::done(unsafe {
         library::dma_ensure_buffer_compatible(
-            address, length, way, internal.start, internal.end, external.start, external.end,
-            regions.internal_alignment, regions.external_alignment,
+            address,
+            length,
+            way,
+            internal.start,
+            internal.end,
+            external.start,
+            external.end,
+            regions.internal_alignment,
+            regions.external_alignment,
         )
     })
 }

@@ -51,8 +51,17 @@ pub fn build_descriptor_list_for_psram(
     // SAFETY: every pointer is lent with its own length.
     error::done(unsafe {
         library::dma_build_descriptor_list_for_psram(
-            starts.as_mut_ptr(), starts.len(), cells.as_mut_ptr(), cells.len(), count,
-            address, length, chip as u32, store_length, answer.as_mut_ptr(), answer.len(),
+            starts.as_mut_ptr(),
+            starts.len(),
+            cells.as_mut_ptr(),
+            cells.len(),
+            count,
+            address,
+            length,
+            chip as u32,
+            store_length,
+            answer.as_mut_ptr(),
+            answer.len(),
         )
     })?;
     Ok(Covered { bytes: answer[0] as usize, records: answer[1] as usize })

@@ -10,7 +10,7 @@ use std::fmt::Write;
 use std::path::{Path, PathBuf};
 use std::{env, fs};
 
-use wanted::{Wanted, MODULES, WRAPPED};
+use wanted::{MODULES, WRAPPED, Wanted};
 
 fn source_folder() -> PathBuf {
     match env::var_os("ESP_HAL_SRC") {
@@ -47,12 +47,15 @@ fn read_files(folder: &Path) -> Result<Vec<File>, String> {
     let mut names: Vec<&'static str> = MODULES.iter().flat_map(|(_, items)| items.iter().map(|w| w.file)).collect();
     names.sort_unstable();
     names.dedup();
-    names.iter().map(|name| {
-        let path = folder.join(name);
-        println!("cargo::rerun-if-changed={}", path.display());
-        let text = fs::read_to_string(&path).map_err(|e| format!("{name}: {e}"))?;
-        Ok(File { name, text })
-    }).collect()
+    names
+        .iter()
+        .map(|name| {
+            let path = folder.join(name);
+            println!("cargo::rerun-if-changed={}", path.display());
+            let text = fs::read_to_string(&path).map_err(|e| format!("{name}: {e}"))?;
+            Ok(File { name, text })
+        })
+        .collect()
 }
 
 /// Every module's items, and the list of what was taken. An item that is not there is an error of the build: the

@@ -20,14 +20,8 @@ const BUFFERS: &str = "src/dma/buffers/mod.rs";
 const DMA: &str = "src/dma/mod.rs";
 const SOC: &str = "src/soc/mod.rs";
 
-pub const MODULES: &[(&str, &[Wanted])] = &[
-    ("align", ALIGN),
-    ("align_methods", ALIGN_METHODS),
-    ("records", RECORDS),
-    ("burst", BURST),
-    ("stream", STREAM),
-    ("pieces", PIECES),
-];
+pub const MODULES: &[(&str, &[Wanted])] =
+    &[("align", ALIGN), ("align_methods", ALIGN_METHODS), ("records", RECORDS), ("burst", BURST), ("stream", STREAM), ("pieces", PIECES)];
 
 /// Methods taken out of a long `impl` stand in one of their own.
 pub const WRAPPED: &[(&str, &str)] = &[("align_methods", "impl BurstConfig")];
@@ -45,11 +39,8 @@ const ALIGN: &[Wanted] = &[
     one(SOC, "pub(crate) fn addr_in_range("),
 ];
 
-const ALIGN_METHODS: &[Wanted] = &[
-    one(BUFFERS, "fn min_alignment("),
-    one(BUFFERS, "fn ensure_buffer_aligned("),
-    one(BUFFERS, "fn ensure_buffer_compatible("),
-];
+const ALIGN_METHODS: &[Wanted] =
+    &[one(BUFFERS, "fn min_alignment("), one(BUFFERS, "fn ensure_buffer_aligned("), one(BUFFERS, "fn ensure_buffer_compatible(")];
 
 const RECORDS: &[Wanted] = &[
     one(DMA, "bitfield::bitfield! {"),

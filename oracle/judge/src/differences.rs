@@ -7,8 +7,29 @@ use crate::rules::{self, align, pieces, receive, sound, split, transmit};
 
 /// The names, in the order of the report.
 pub const LIST: &[&str] = &[
-    LAST_PEEK, LAST_EOF, LAST_POP, UNEVEN, OVERRUN, ZERO, MANY, LATE, CUT_COMMIT, KEPT_COMMIT, KEPT_PANIC, UNPUSHED, KEPT_COUNT,
-    TWICE, AT_LENGTH, LONG, BEYOND, ALIGNMENT, TAIL, OUT, MANY_PIECES, NO_STORE, PAST,
+    LAST_PEEK,
+    LAST_EOF,
+    LAST_POP,
+    UNEVEN,
+    OVERRUN,
+    ZERO,
+    MANY,
+    LATE,
+    CUT_COMMIT,
+    KEPT_COMMIT,
+    KEPT_PANIC,
+    UNPUSHED,
+    KEPT_COUNT,
+    TWICE,
+    AT_LENGTH,
+    LONG,
+    BEYOND,
+    ALIGNMENT,
+    TAIL,
+    OUT,
+    MANY_PIECES,
+    NO_STORE,
+    PAST,
 ];
 
 pub const LAST_PEEK: &str = "peek on record n-1 with an offset: the first bytes again";

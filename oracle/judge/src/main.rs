@@ -1,6 +1,7 @@
 //! The judge: holds our library against the Rust's own text and against document 01's rules.
 
 mod differences;
+mod faults;
 mod mutants;
 mod ours;
 mod report;

@@ -43,14 +43,17 @@ fn refused(error: DmaBufError) -> Answer {
 fn load(state: &State) -> DescriptorList {
     let mut list = DescriptorList::new(state.n());
     for (i, record) in state.records.iter().take(LIMIT).enumerate() {
-        list.set(i, DmaDescriptor {
-            buffer: record.start as u32,
-            size: record.size as u16,
-            length: record.length as u16,
-            suc_eof: record.eof,
-            owner: if record.owner == Owner::Dma { ciramohir::Owner::Dma } else { ciramohir::Owner::Cpu },
-            next: record.next.map(|next| next as u16),
-        });
+        list.set(
+            i,
+            DmaDescriptor {
+                buffer: record.start as u32,
+                size: record.size as u16,
+                length: record.length as u16,
+                suc_eof: record.eof,
+                owner: if record.owner == Owner::Dma { ciramohir::Owner::Dma } else { ciramohir::Owner::Cpu },
+                next: record.next.map(|next| next as u16),
+            },
+        );
     }
     list
 }
@@ -120,7 +123,9 @@ fn receive(list: &mut DescriptorList, state: &mut State, call: &Call) -> Asked {
         }
         Call::Available => view.available_bytes().map(Answer::Bytes),
         Call::Peek => view.peek().map(|part| place(part, base)).map(|(at, len)| Answer::part(at, len)),
-        Call::PeekUntilEof => view.peek_until_eof().map(|(part, eof)| (place(part, base), eof)).map(|((at, len), eof)| Answer::part_eof(at, len, eof)),
+        Call::PeekUntilEof => {
+            view.peek_until_eof().map(|(part, eof)| (place(part, base), eof)).map(|((at, len), eof)| Answer::part_eof(at, len, eof))
+        }
         Call::Consume(k) => view.consume_counting(*k).map(|(bytes, back)| Answer::Taken { bytes, back }),
         Call::Pop => view.pop(&mut state.lent).map(Answer::Bytes),
         Call::Fill(data, eof) => device.receive(&mut view, data, *eof).map(Answer::Bytes),

@@ -194,6 +194,7 @@ fn difference(expected: Answer, after: &State, answer: Answer, seen: &State) -> 
     if after.lent != seen.lent {
         return place("lent slice", &after.lent, &seen.lent);
     }
-    let small = |s: &State| format!("cursor ({}, {}) tally {} prefilled {} device {:?}", s.cursor, s.offset, s.tally, s.prefilled, s.device);
+    let small =
+        |s: &State| format!("cursor ({}, {}) tally {} prefilled {} device {:?}", s.cursor, s.offset, s.tally, s.prefilled, s.device);
     format!("expected {}, got {}", small(after), small(seen))
 }

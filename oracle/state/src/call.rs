@@ -39,7 +39,9 @@ pub enum Call<'a> {
     /// Over `records` and `buffer` as they stand.
     New,
     /// `pushed` is false where nothing was ever pushed: the Rust alone tells that from a push of no bytes.
-    Prepare { pushed: bool },
+    Prepare {
+        pushed: bool,
+    },
     Available,
     Peek,
     PeekUntilEof,
@@ -70,13 +72,35 @@ pub enum Answer {
     Refused(u8),
     Bytes(usize),
     /// A part of the buffer; an empty one has no place.
-    Part { at: usize, len: usize },
-    PartEof { at: usize, len: usize, eof: bool },
-    Taken { bytes: usize, back: usize },
-    Cut { head: usize, middle: usize, tail: usize },
+    Part {
+        at: usize,
+        len: usize,
+    },
+    PartEof {
+        at: usize,
+        len: usize,
+        eof: bool,
+    },
+    Taken {
+        bytes: usize,
+        back: usize,
+    },
+    Cut {
+        head: usize,
+        middle: usize,
+        tail: usize,
+    },
     /// `in_store` has a bit for each piece that lies in the bounce store.
-    Pieces { covered: usize, used: usize, in_store: u128 },
-    Piece { in_store: bool, start: usize, size: usize },
+    Pieces {
+        covered: usize,
+        used: usize,
+        in_store: u128,
+    },
+    Piece {
+        in_store: bool,
+        start: usize,
+        size: usize,
+    },
     Panicked,
     NotLinked,
 }

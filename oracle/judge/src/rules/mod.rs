@@ -29,14 +29,17 @@ fn refusal(call: &Call, state: &State) -> Option<u8> {
         Call::Align(a) => align::refusal(a),
         Call::Cut(_) => None,
         Call::Pieces(range, store) => pieces::refusal(state.n(), range, *store),
-        Call::Piece(range, store, number) => pieces::refusal(state.n(), range, *store)
-            .or((*number >= pieces::list(state.n(), range).len()).then_some(8)),
+        Call::Piece(range, store, number) => {
+            pieces::refusal(state.n(), range, *store).or((*number >= pieces::list(state.n(), range).len()).then_some(8))
+        }
         Call::Prepare { .. } | Call::Prefill(_) | Call::OfferPrefill => (!sound::splits(state)).then_some(5),
-        Call::CommitPrefill(k) => if !sound::splits(state) {
-            Some(5)
-        } else {
-            (*k > state.buffer.len() - state.prefilled).then_some(8)
-        },
+        Call::CommitPrefill(k) => {
+            if !sound::splits(state) {
+                Some(5)
+            } else {
+                (*k > state.buffer.len() - state.prefilled).then_some(8)
+            }
+        }
         _ if !sound::sound(state) => Some(5),
         Call::Commit(k) => (*k > transmit::offered(state).1).then_some(8),
         Call::Advance(k) => (*k > transmit::available(state)).then_some(8),

@@ -4,11 +4,12 @@ use state::{Direction, Owner, State};
 
 use super::split::split;
 
-/// What `prepare` and the push before it ask: the split, and the prefilled count.
+/// What `prepare` and the push before it ask: the split, and for transmit the prefilled count.
 pub fn splits(state: &State) -> bool {
     let Ok(split) = split(state.n(), state.buffer.len()) else { return false };
     let as_split = |(i, record): (usize, &state::Record)| record.start == split.start(i) && record.size == split.size(i);
-    state.records.iter().enumerate().all(as_split) && state.prefilled <= state.buffer.len()
+    let counted = state.direction == Direction::Receive || state.prefilled <= state.buffer.len();
+    state.records.iter().enumerate().all(as_split) && counted
 }
 
 pub fn sound(state: &State) -> bool {

@@ -26,9 +26,8 @@ fn small(runner: &mut Runner, none: &State) {
         for length in 0..14 {
             for (internal_alignment, external_alignment) in [(1, 1), (1, 4), (4, 1), (2, 8), (4, 4), (1, 3), (0, 1)] {
                 for direction in BOTH {
-                    let asked = Align {
-                        address, length, direction, internal: (4, 12), external: (10, 21), internal_alignment, external_alignment,
-                    };
+                    let asked =
+                        Align { address, length, direction, internal: (4, 12), external: (10, 21), internal_alignment, external_alignment };
                     runner.check(Call::Align(asked), none);
                 }
             }

@@ -26,8 +26,15 @@ fn rows(runner: &mut Runner) {
     let sizes = |sizes: &'static [usize]| (Answer::Done, sizes);
     let refused = |number| (Answer::Refused(number), [].as_slice());
     let table = [
-        (3, refused(2)), (4, sizes(&[1, 1, 1, 1])), (11, refused(3)), (14, sizes(&[3, 3, 3, 5])), (15, refused(3)),
-        (16377, sizes(&[4094, 4094, 4094, 4095])), (16378, refused(1)), (16380, sizes(&[4095; 4])), (16381, refused(1)),
+        (3, refused(2)),
+        (4, sizes(&[1, 1, 1, 1])),
+        (11, refused(3)),
+        (14, sizes(&[3, 3, 3, 5])),
+        (15, refused(3)),
+        (16377, sizes(&[4094, 4094, 4094, 4095])),
+        (16378, refused(1)),
+        (16380, sizes(&[4095; 4])),
+        (16381, refused(1)),
     ];
     for direction in [Direction::Receive, Direction::Transmit] {
         for (len, (answer, sizes)) in table {
@@ -111,9 +118,7 @@ fn sent(runner: &mut Runner, prefill: usize, cursor: (usize, usize), available: 
 
 fn split_rows(runner: &mut Runner) {
     let mut list = State::blank(Direction::Receive, 6, 0);
-    let cuts = [
-        (13, 100, Chip::Ordinary, (3, 96, 1)), (13, 100, Chip::S2, (19, 64, 17)), (13, 24, Chip::S2, (24, 0, 0)),
-    ];
+    let cuts = [(13, 100, Chip::Ordinary, (3, 96, 1)), (13, 100, Chip::S2, (19, 64, 17)), (13, 24, Chip::S2, (24, 0, 0))];
     for (address, length, chip, (head, middle, tail)) in cuts {
         must(runner, &mut list, Call::Cut(Range { address, length, chip }), Answer::Cut { head, middle, tail });
     }

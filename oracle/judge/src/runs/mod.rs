@@ -15,17 +15,19 @@ mod words;
 use crate::rng::Rng;
 use crate::runner::Runner;
 
-/// How much is run. `scale` multiplies the random runs, `states` bounds the exhaustive ones for each shape.
+/// How much is run. `scale` multiplies the random runs; the others bound the exhaustive ones for each shape: where a
+/// shape has more states than that, so many random ones are taken.
 #[derive(Clone, Copy)]
 pub struct Size {
     pub scale: usize,
-    pub states: usize,
+    pub received: usize,
+    pub sent: usize,
 }
 
-pub const QUICK: Size = Size { scale: 1, states: 21_000 };
+pub const QUICK: Size = Size { scale: 1, received: 21_000, sent: 6_000 };
 /// For planted faults, which want no more than this.
-pub const SMALL: Size = Size { scale: 1, states: 300 };
-pub const LONG: Size = Size { scale: 8, states: 340_000 };
+pub const SMALL: Size = Size { scale: 1, received: 300, sent: 300 };
+pub const LONG: Size = Size { scale: 8, received: 340_000, sent: 263_000 };
 
 pub type Run = fn(&mut Runner, Size, &Rng);
 

@@ -13,7 +13,7 @@ pub const SHAPES: &[(usize, usize)] = &[(4, 4), (4, 8), (4, 9), (5, 5), (4, 14),
 
 pub fn run(runner: &mut Runner, size: Size, rng: &Rng) {
     for &(n, len) in SHAPES {
-        each_state(Direction::Receive, n, len, size.states, rng, |state, _| {
+        each_state(Direction::Receive, n, len, size.received, rng, |state, _| {
             each_cursor(state, |state| calls(runner, state));
             runner.done()
         });
@@ -22,14 +22,7 @@ pub fn run(runner: &mut Runner, size: Size, rng: &Rng) {
 
 /// Every state of a shape, or `limit` random ones where there are more. Nexts are random: no call of a view reads
 /// them, and each must leave all but its own alone.
-pub fn each_state(
-    direction: Direction,
-    n: usize,
-    len: usize,
-    limit: usize,
-    rng: &Rng,
-    mut visit: impl FnMut(&mut State, &Rng) -> bool,
-) {
+pub fn each_state(direction: Direction, n: usize, len: usize, limit: usize, rng: &Rng, mut visit: impl FnMut(&mut State, &Rng) -> bool) {
     let mut state = states::ring(direction, n, len);
     let bases: Vec<usize> = state.records.iter().map(states::codes).collect();
     let total: usize = bases.iter().product();

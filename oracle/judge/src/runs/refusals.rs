@@ -38,7 +38,7 @@ fn spoil(rng: &Rng, state: &mut State) {
         5 => state.offset = state.records[state.cursor].length.max(1),
         6 => state.offset = state.records[state.cursor].size,
         7 => state.offset = 1,
-        8 => state.prefilled = state.buffer.len() + rng.between(1, 3),
+        8 if state.direction == Direction::Transmit => state.prefilled = state.buffer.len() + rng.between(1, 3),
         9 => state.records.truncate(3),
         10 => state.buffer.push(0),
         _ => state.records.resize(65, state.records[0]),
@@ -51,8 +51,14 @@ pub fn every_call(runner: &mut Runner, rng: &Rng, state: &mut State) {
     let before = [Call::Prepare { pushed: true }, Call::Available];
     let receive = [Call::Peek, Call::PeekUntilEof, Call::Consume(k), Call::Pop, Call::Fill(&data[..k], true)];
     let transmit = [
-        Call::Prefill(&data[..k]), Call::OfferPrefill, Call::CommitPrefill(k), Call::Push(&data[..k]),
-        Call::Offer, Call::Commit(k), Call::Advance(k), Call::Send,
+        Call::Prefill(&data[..k]),
+        Call::OfferPrefill,
+        Call::CommitPrefill(k),
+        Call::Push(&data[..k]),
+        Call::Offer,
+        Call::Commit(k),
+        Call::Advance(k),
+        Call::Send,
     ];
     state.lent = vec![0xEE; k];
     for call in before {

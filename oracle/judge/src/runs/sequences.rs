@@ -155,7 +155,7 @@ fn going_round(state: &State, k: usize) -> Vec<u8> {
 fn offer_and_commit(runner: &mut Runner, state: &mut State, accepted: &mut VecDeque<u8>, k: usize) {
     let (at, offered) = transmit::offered(state);
     for (i, byte) in state.buffer[at..at + offered].iter_mut().enumerate() {
-        *byte = byte.wrapping_add(i as u8 + 1);
+        *byte = byte.wrapping_add(i as u8 | 1);
     }
     let standing = going_round(state, k);
     if let Answer::Bytes(count) = step(runner, state, Call::Commit(k)) {

@@ -12,7 +12,7 @@ const DATA: [u8; 32] = *b"abcdefghijklmnopqrstuvwxyz012345";
 
 pub fn run(runner: &mut Runner, size: Size, rng: &Rng) {
     for &(n, len) in SHAPES {
-        each_state(Direction::Transmit, n, len, size.states, rng, |state, rng| {
+        each_state(Direction::Transmit, n, len, size.sent, rng, |state, rng| {
             state.prefilled = rng.between(0, len);
             each_cursor(state, |state| calls(runner, state));
             before_prepare(runner, state);

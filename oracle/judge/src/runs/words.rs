@@ -31,6 +31,10 @@ pub fn run(runner: &mut Runner, _: Size, rng: &Rng) {
     ];
     for (name, spoil) in spoils {
         for direction in [Direction::Receive, Direction::Transmit] {
+            // A receive ring has no prefilled count.
+            if direction == Direction::Receive && name.contains("prefilled") {
+                continue;
+            }
             let (mut head, mut list) = words(direction, rng);
             spoil(&mut head, list.words_mut().1);
             let refused = asked(direction, head, &mut list).iter().all(|answer| *answer == Err(DmaBufError::BadState));
@@ -107,8 +111,15 @@ fn short_slices(runner: &mut Runner, rng: &Rng) {
         // SAFETY: no length is above what stands behind its pointer.
         let number = unsafe {
             library::dma_rx_available_bytes(
-                head.as_mut_ptr(), head_len, starts.as_mut_ptr(), starts_len, cells.as_mut_ptr(), cells_len, LEN,
-                answer.as_mut_ptr(), answer_len,
+                head.as_mut_ptr(),
+                head_len,
+                starts.as_mut_ptr(),
+                starts_len,
+                cells.as_mut_ptr(),
+                cells_len,
+                LEN,
+                answer.as_mut_ptr(),
+                answer_len,
             )
         };
         let whole = (head_len, starts_len, cells_len, answer_len) == (5, 64, 320, 3);

@@ -16,7 +16,8 @@ pub fn write(script: &mut Script) {
 }
 
 fn lengths(n: usize) -> Vec<usize> {
-    let mut lengths: Vec<usize> = if n <= 6 { (0..=3 * n + 2).collect() } else { vec![0, n - 1, n, 2 * n, n * n - 1, n * n, n * n + n - 1] };
+    let mut lengths: Vec<usize> =
+        if n <= 6 { (0..=3 * n + 2).collect() } else { vec![0, n - 1, n, 2 * n, n * n - 1, n * n, n * n + n - 1] };
     for at in [4094 * n, 4095 * n] {
         lengths.extend([at, at + 1, at + 2]);
     }

@@ -28,7 +28,9 @@ pub fn write(script: &mut Script, rng: &Rng) {
 fn alignment(script: &mut Script) {
     let top = 1u64 << 32;
     for direction in [Direction::Receive, Direction::Transmit] {
-        for (internal, external) in [((4096, 8192), (16384, 20480)), ((4096, 8192), (8000, 20480)), ((0, top), (0, 0)), ((0, 0), (4096, top))] {
+        for (internal, external) in
+            [((4096, 8192), (16384, 20480)), ((4096, 8192), (8000, 20480)), ((0, top), (0, 0)), ((0, 0), (4096, top))]
+        {
             for (internal_alignment, external_alignment) in [(1, 1), (4, 16), (16, 4), (64, 32), (0, 4), (4, 3), (128, 1)] {
                 for (address, length) in [(4096, 64), (4100, 8), (8188, 8), (8000, 10), (16384, 33), (0, 0), (u32::MAX, 1), (u32::MAX, 2)] {
                     let asked = Align { address, length, direction, internal, external, internal_alignment, external_alignment };
@@ -49,7 +51,9 @@ fn lists(script: &mut Script, rng: &Rng) {
             }
         }
         let range = Range { address: u32::MAX - 30, length: 31, chip };
-        for (n, length, store) in [(8, 31, 48), (8, 32, 48), (8, 100, 31), (8, 100, 32), (8, 32, 10), (65, 33, 10), (65, 10, 48), (64, 31, 48)] {
+        for (n, length, store) in
+            [(8, 31, 48), (8, 32, 48), (8, 100, 31), (8, 100, 32), (8, 32, 10), (65, 33, 10), (65, 10, 48), (64, 31, 48)]
+        {
             list(script, n, Range { length, ..range }, store);
         }
     }

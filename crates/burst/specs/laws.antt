@@ -1,0 +1,2 @@
+-- Theorems about the definitions beside this file. Nothing here is to be believed.
+pub mod Powers

@@ -1,0 +1,4 @@
+pub mod Cut
+pub mod Piece
+pub mod List
+pub mod laws
