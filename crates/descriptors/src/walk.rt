@@ -113,29 +113,29 @@ fn less(a: usize, b: usize) -> usize
     if b < a { a - b } else { 0 }
 }
 
-// Record i goes back to the device, in the Rust's order of stores.
-fn give_back(w: &mut [u16], n: usize, i: usize)
-    ensures { λ _. ⌜ now (w .exit) ≡ handCells TransferDirection.In n i (now (w .entry)) ⌝ }
+// Record idx goes back to the device, in the Rust's order of stores.
+fn give_back(w: &mut [u16], n: usize, idx: usize)
+    ensures { λ _. ⌜ now (w .exit) ≡ handCells TransferDirection.In n idx (now (w .entry)) ⌝ }
 {
-    cells::set_owner(w, i, Owner::Dma);
-    cells::set_suc_eof(w, i, false);
-    cells::set_length(w, i, 0);
-    cells::set_next(w, i, Next::Nothing);
-    let previous = place::before(n, i);
-    cells::link_to(w, previous, i);
+    cells::set_owner(w, idx, Owner::Dma);
+    cells::set_suc_eof(w, idx, false);
+    cells::set_length(w, idx, 0);
+    cells::set_next(w, idx, Next::Nothing);
+    let previous = place::before(n, idx);
+    cells::link_to(w, previous, idx);
 }
 
-// Record i, filled, goes to the device.
-fn enqueue(w: &mut [u16], n: usize, i: usize)
-    ensures { λ _. ⌜ now (w .exit) ≡ handCells TransferDirection.Out n i (now (w .entry)) ⌝ }
+// Record d, filled, goes to the device.
+fn enqueue(w: &mut [u16], n: usize, d: usize)
+    ensures { λ _. ⌜ now (w .exit) ≡ handCells TransferDirection.Out n d (now (w .entry)) ⌝ }
 {
-    let size = cells::size_of(w, i);
-    cells::set_owner(w, i, Owner::Dma);
-    cells::set_length(w, i, size as u16);
-    cells::set_suc_eof(w, i, true);
-    cells::set_next(w, i, Next::Nothing);
-    let previous = place::before(n, i);
-    cells::link_to(w, previous, i);
+    let size = cells::size_of(w, d);
+    cells::set_owner(w, d, Owner::Dma);
+    cells::set_length(w, d, size as u16);
+    cells::set_suc_eof(w, d, true);
+    cells::set_next(w, d, Next::Nothing);
+    let previous = place::before(n, d);
+    cells::link_to(w, previous, d);
 }
 
 fn hand_over_one(w: &mut [u16], dir: TransferDirection, n: usize, i: usize)
