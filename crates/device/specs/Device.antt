@@ -1,27 +1,23 @@
 -- Module 5, "Device". "It stands on a record or is stopped, starting at record 0. It never looks at the owner." Where it stands is a
 -- `Next`: a record, or nothing once it is stopped, since a step "moves to next as read at that moment; none means stopped".
-use Prim.Native.Nat.{ℕ, zero, suc, _+_, _-_}
-use mathlib.Core.Bool.{Bool, true, false, cond, _&&_}
-use mathlib.Core.List.{List, [], _∷_, _++_}
-use lib.Dec.{eqb, leb, ltb}
+use Prim.Native.Nat.{ℕ}
+use mathlib.Core.Bool.{Bool, cond, _&&_}
+use mathlib.Core.List.{List, _++_}
+use lib.Dec.{leb, ltb}
 use lib.ListN.{length, take, drop}
 use lib.Seq.{paste}
 use Rattle.descriptors.specs.Record.{update, closed, sent}
-use Rattle.descriptors.specs.Cells.{putOwner, putEof, putLength}
 use Rattle.descriptors.specs.Ring.{Ring, withRecords, recordOf, sound}
-use Rattle.descriptors.specs.declared.record.Owner.the-variants.{Cpu}
 use Rattle.descriptors.specs.declared.record.Next.{Next}
 use Rattle.descriptors.specs.declared.record.Next.the-variants.{Nothing, At}
 use Rattle.descriptors.specs.declared.record.DmaDescriptor.{DmaDescriptor}
 use Rattle.descriptors.specs.declared.record.TransferDirection.{TransferDirection}
 use Rattle.descriptors.specs.declared.record.TransferDirection.the-variants.{In, Out}
-use Rattle.descriptors.specs.declared.refusal.DmaBufError.{DmaBufError}
 use Rattle.descriptors.specs.declared.refusal.DmaBufError.the-variants.{BadState, BadStep, Stopped}
 use Rattle.descriptors.specs.declared.refusal.Counted.{Counted}
 use Rattle.descriptors.specs.declared.refusal.Counted.the-variants as counted
 use Rattle.descriptors.specs.declared.refusal.Done.{Done}
 use Rattle.descriptors.specs.declared.refusal.Done.the-variants as done
-use Rattle.device.specs.declared.receive.Received.{Received}
 use Rattle.device.specs.declared.stand.Stand.{Stand}
 use Rattle.device.specs.declared.stand.Stand.the-variants as stand
 
@@ -56,18 +52,6 @@ receiveBy r dev k eof (stand.On i) =
 -- "sets length and EOF, makes it CPU, and moves to next as read at that moment"
 unfoldable pub receiveOf : Ring → Next → ℕ → ℕ → Bool → Stepped Done
 receiveOf r dev len k eof = receiveBy r dev k eof (standOf In r len dev)
-
--- the answer by itself
-abbrev pub standDone : Stand → Done
-standDone (stand.On i) = done.Ready
-standDone (stand.Refused e) = done.Refused e
-
-abbrev pub receivedOf : Stepped Done → Received
-receivedOf o = record { device = o .device; answer = o .answer }
-
--- a record closed, store by store
-abbrev pub closeCells : ℕ → ℕ → Bool → List ℕ → List ℕ
-closeCells i k eof ws = putOwner (putEof (putLength ws i k) i eof) i Cpu
 
 -- "A receive step writes its bytes at the start of the record"
 abbrev pub receiveIntoBy : Ring → List ℕ → List ℕ → Stand → List ℕ

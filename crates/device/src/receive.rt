@@ -1,11 +1,12 @@
 // The receive step: the device fills the record that it stands on, and moves on.
 ghost use mathlib.Core.Path.{_≡_};
+ghost use mathlib.Core.List.{[]};
 ghost use Prim.Native.Nat.{_+_, _≤_};
 ghost use lib.ListN.{length};
 ghost use lib.Seq.{paste};
-ghost use Rattle.descriptors.specs.Cells.{cellsNow};
-ghost use Rattle.descriptors.specs.Ring.{ringOf};
-ghost use Rattle.device.specs.Device.{receiveOf, receiveInto, receivedOf, closeCells, standDone};
+ghost use Rattle.descriptors.specs.Cells.{recordAt};
+ghost use Rattle.device.specs.Device.{fits};
+ghost use Rattle.device.specs.Faces.{standDone, closeCells, ReceivedIn};
 use crate::stand;
 use crate::stand::Stand;
 use descriptors::cells;
@@ -31,6 +32,16 @@ fn refused(found: Stand) -> Done
     }
 }
 
+// A step fills 1 to size bytes.
+fn step_fits(w: &[u16], i: usize, k: usize) -> bool
+    ensures { λ r. ⌜ r ≡ fits k (recordAt [] (now (w .entry)) i) ⌝ }
+{
+    if k == 0 {
+        return false;
+    }
+    k <= cells::size_of(w, i)
+}
+
 // Record i is closed with k bytes: the CPU's from now on.
 fn close(w: &mut [u16], i: usize, k: u16, eof: bool)
     ensures { λ _. ⌜ now (w .exit) ≡ closeCells i k eof (now (w .entry)) ⌝ }
@@ -40,7 +51,7 @@ fn close(w: &mut [u16], i: usize, k: u16, eof: bool)
     cells::set_owner(w, i, Owner::Cpu);
 }
 
-// bytes at place `at` of the buffer
+// The bytes go into the buffer, from index `at` on.
 fn place(buffer: &mut [u8], at: usize, incoming: &[u8])
     requires { ⌜ at + length (now incoming) ≤ length (now buffer) ⌝ }
     ensures { λ _. ⌜ now (buffer .exit) ≡ paste (now (buffer .entry)) at (now (incoming .entry)) (length (now (incoming .entry))) ⌝ }
@@ -49,7 +60,7 @@ fn place(buffer: &mut [u8], at: usize, incoming: &[u8])
     bytes::copy(incoming, &mut buffer[at..end]);
 }
 
-// One receive step, in place: the bytes go to the record's start.
+// One receive step over lent words: the bytes go to the record's start. It answers 5, then 7, then 6; it looks at no owner.
 pub fn receive_step_in(
     s: &[u32],
     w: &mut [u16],
@@ -59,7 +70,7 @@ pub fn receive_step_in(
     incoming: &[u8],
     eof: bool,
 ) -> Received
-    ensures { λ r. ⌜ (now (w .exit) ≡ cellsNow (now (s .entry)) (now (w .entry)) (receiveOf (ringOf (now (s .entry)) (now (w .entry)) h) device (length (now (buffer .entry))) (length (now (incoming .entry))) eof .ring .descriptors)) × (now (buffer .exit) ≡ receiveInto (ringOf (now (s .entry)) (now (w .entry)) h) device (now (buffer .entry)) (now (incoming .entry))) × (r ≡ receivedOf (receiveOf (ringOf (now (s .entry)) (now (w .entry)) h) device (length (now (buffer .entry))) (length (now (incoming .entry))) eof)) ⌝ }
+    ensures { λ r. ⌜ ReceivedIn (now (s .entry)) (now (w .entry)) h device (now (buffer .entry)) (now (incoming .entry)) eof (now (w .exit)) (now (buffer .exit)) r ⌝ }
 {
     let found = stand::find(TransferDirection::In, s, w, h, buffer.len(), device);
     let Stand::On(i) = found else {
@@ -68,14 +79,7 @@ pub fn receive_step_in(
             answer: refused(found),
         };
     };
-    let k = incoming.len();
-    if k == 0 {
-        return Received {
-            device,
-            answer: Done::Refused(DmaBufError::BadStep),
-        };
-    }
-    if cells::size_of(w, i) < k {
+    if !step_fits(w, i, incoming.len()) {
         return Received {
             device,
             answer: Done::Refused(DmaBufError::BadStep),
@@ -84,7 +88,7 @@ pub fn receive_step_in(
     let next = cells::next_of(w, i);
     let start = cells::start_of(s, i) as usize;
     place(buffer, start, incoming);
-    close(w, i, k as u16, eof);
+    close(w, i, incoming.len() as u16, eof);
     Received {
         device: next,
         answer: Done::Ready,

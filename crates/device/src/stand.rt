@@ -14,6 +14,13 @@ pub enum Stand {
     Refused(DmaBufError),
 }
 
+// "starting at record 0"
+pub fn start() -> Next
+    ensures { λ r. ⌜ r ≡ Next.At 0 ⌝ }
+{
+    Next::At(0)
+}
+
 // 5 for a ring that is not sound or a record that is not below n, then 7 for a device that stopped.
 pub fn find<'a>(
     dir: TransferDirection,

@@ -1,7 +1,6 @@
 -- Module 6, "Head and tail": how a range is cut.
 use Prim.Native.Nat.{ℕ, _+_, _-_, _*_, _%_, _≤_}
 use mathlib.Core.Bool.{cond, _&&_}
-use native.Mathlib.Omega.{arith}
 use lib.Dec.{leb, ltb}
 use Rattle.descriptors.specs.declared.refusal.DmaBufError.the-variants.{UnsupportedMemoryRegion}
 use Rattle.psram.specs.declared.chip.Chip.{Chip}
@@ -36,10 +35,6 @@ pub record Sides (least bounce : ℕ) : Type 0 where
   pub short : least ≤ line
   pub room : 2 * least + 14 ≤ bounce
   pub small : bounce ≤ piece
-
-pub sides : (chip : Chip) → Sides (leastOf chip) (bounceOf chip)
-sides Ordinary = record { some = omega arith; short = omega arith; room = omega arith; small = omega arith }
-sides S2 = record { some = omega arith; short = omega arith; room = omega arith; small = omega arith }
 
 -- "each, if above 0 and below least, grows by 16"
 abbrev pub grown : ℕ → ℕ → ℕ

@@ -17,7 +17,7 @@ pub enum Chip {
 }
 
 // The fewest bytes that the device moves at either end of a range: MIN_LAST_DMA_LEN in the Rust.
-pub(crate) fn least(chip: Chip) -> usize
+pub fn least(chip: Chip) -> usize
     ensures { λ r. ⌜ r ≡ leastOf chip ⌝ }
 {
     match chip {
@@ -27,7 +27,7 @@ pub(crate) fn least(chip: Chip) -> usize
 }
 
 // The bytes of each half of the bounce store: BUF_LEN in the Rust.
-pub(crate) fn bounce(chip: Chip) -> usize
+pub fn bounce(chip: Chip) -> usize
     ensures { λ r. ⌜ r ≡ bounceOf chip ⌝ }
 {
     match chip {

@@ -1,6 +1,6 @@
 // Head, middle and tail of a range.
 ghost use mathlib.Core.Path.{_≡_};
-ghost use Prim.Native.Nat.{_+_, _<_, _≤_};
+ghost use Prim.Native.Nat.{_+_, _<_};
 ghost use lib.Dec.{ltb};
 ghost use Rattle.psram.specs.Cut.{line, top, Sides, grown, headOf, planOf, planFor, cutOf};
 use crate::chip::Chip;

@@ -1,8 +1,8 @@
 // The records that the pieces of a range are given to.
 ghost use mathlib.Core.Path.{_≡_};
-ghost use Prim.Native.Nat.{_≤_, _<_, min};
+ghost use Prim.Native.Nat.{_≤_, min};
 ghost use Rattle.descriptors.specs.Record.{limit, upTo};
-ghost use Rattle.descriptors.specs.Cells.{recordsOf, startsNow, cellsNow};
+ghost use Rattle.descriptors.specs.Cells.{recordsOf};
 ghost use Rattle.psram.specs.Cut.{piece};
 ghost use Rattle.psram.specs.Piece.{Small, pieceOf, startIn, sizeIn};
 ghost use Rattle.psram.specs.List.{linkCells, listStart, listCells, coveredOf, listOf, Leaves, builtOf};

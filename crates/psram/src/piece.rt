@@ -1,6 +1,6 @@
 // The numbered piece of a range, and the part of the store or of the range that holds it.
 ghost use mathlib.Core.Path.{_≡_};
-ghost use Prim.Native.Nat.{_+_, _<_, _≤_};
+ghost use Prim.Native.Nat.{_<_, _≤_};
 ghost use lib.ListN.{length};
 ghost use Rattle.psram.specs.Cut.{top};
 ghost use Rattle.psram.specs.Piece.{some, directs, bytesOf, piecesOf, pieceOf, directOf, readyOf, numberedOf, shownOf, pieceRefusalOf};

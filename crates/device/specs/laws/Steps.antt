@@ -1,40 +1,41 @@
--- What a step finds, and what it leaves.
-use Prim.Native.Nat.{ℕ, zero, suc, _+_, _≤_, _<_}
-use mathlib.Core.Path.{_≡_, refl, sym, _∙_, ap}
-use mathlib.Core.Bool.{Bool, true, false, cond, _&&_}
-use mathlib.Core.List.{List, []}
-use native.Mathlib.Omega.{arith}
-use borrow.Author.Tests.{lt-ltb, le-ltb, le-leb, lt-leb, ltb-true}
-use lib.Dec.{leb, ltb}
-use lib.ListN.{length}
-use Rattle.descriptors.specs.Record.{limit, most, update, recordIn, closed, sent, withOwner, withLength, withEof}
-use Rattle.descriptors.specs.Cells.{areRecords, recordsOf, recordAt, cellsNow, putOwner}
-use Rattle.descriptors.specs.Split.{startOf, sizeOf}
-use Rattle.descriptors.specs.Ring.{Ring, ringOf, recordOf, sound, judged, withRecords}
+-- Where a step finds the device, and what is then known of its record.
+use Prim.Native.Nat.{ℕ, _+_, _≤_, _<_}
+use mathlib.Core.Path.{_≡_, refl, sym, _∙_}
+use mathlib.Core.Bool.{Bool, true, false, cond}
+use mathlib.Core.List.{List}
+use borrow.Author.Tests.{ltb-true}
+use lib.Dec.{ltb}
+use Rattle.descriptors.specs.Record.{most}
+use Rattle.descriptors.specs.Cells.{areRecords, recordAt}
+use Rattle.descriptors.specs.Ring.{Ring, ringOf, recordOf, sound, judged}
 use Rattle.descriptors.specs.laws.Tests.{not-both}
-use Rattle.descriptors.specs.laws.Lifts.{Lifts, record-is, length-lifts, eof-lifts, owner-lifts}
-use Rattle.descriptors.specs.laws.Stores.{lifts-more}
+use Rattle.descriptors.specs.laws.Lifts.{record-is}
 use Rattle.descriptors.specs.laws.Splits.{place-fits, size-most}
-use Rattle.descriptors.specs.laws.Sound.{Facts, facts, sound-split, split-records, ready-split}
-use Rattle.descriptors.specs.laws.Words.{cells-are, cells-same}
-use Rattle.device.specs.Device.{Stepped, standsOn, standOf, fits, receiveBy, receiveOf, receiveIntoBy, receiveInto, closeCells}
-use Rattle.descriptors.specs.declared.record.Owner.the-variants.{Cpu}
+use Rattle.descriptors.specs.laws.Sound.{ready-split, facts, sound-split, split-records}
+use Rattle.device.specs.Device.{standsOn, standOf}
 use Rattle.descriptors.specs.declared.record.Next.{Next}
 use Rattle.descriptors.specs.declared.record.Next.the-variants.{Nothing, At}
-use Rattle.descriptors.specs.declared.record.DmaDescriptor.{DmaDescriptor}
 use Rattle.descriptors.specs.declared.record.TransferDirection.{TransferDirection}
-use Rattle.descriptors.specs.declared.record.TransferDirection.the-variants.{In, Out}
 use Rattle.descriptors.specs.declared.refusal.DmaBufError.{DmaBufError}
-use Rattle.descriptors.specs.declared.refusal.DmaBufError.the-variants.{BadState, BadStep}
+use Rattle.descriptors.specs.declared.refusal.DmaBufError.the-variants.{BadState}
 use Rattle.descriptors.specs.declared.refusal.Done.{Done}
 use Rattle.descriptors.specs.declared.refusal.Done.the-variants as done
 use Rattle.descriptors.specs.declared.ring.Head.{Head}
 use Rattle.device.specs.declared.stand.Stand.{Stand}
 use Rattle.device.specs.declared.stand.Stand.the-variants as stand
 
-pub refused-judged : (b : Bool) (d : Done) (e : DmaBufError) → d ≡ judged b → d ≡ done.Refused e → b ≡ false
+-- what the judge's answer tells
+pub stand-judged : (dir : TransferDirection) (r : Ring) (len : ℕ) (dev : Next) (d : Done) (x : Stand) → d ≡ judged (sound dir r len) → d ≡ done.Ready → x ≡ standsOn (r .count) dev
+    → x ≡ standOf dir r len dev
+stand-judged dir r len dev d x p q e = let s : sound dir r len ≡ true = ready-split (sound dir r len) d p q in rw s e
+
+refused-judged : (b : Bool) (d : Done) (e : DmaBufError) → d ≡ judged b → d ≡ done.Refused e → b ≡ false
 refused-judged true d e p q = not-both (let z : judged true ≡ done.Refused e = sym p ∙ q in cc)
 refused-judged false d e p q = refl
+
+pub stand-refused : (dir : TransferDirection) (r : Ring) (len : ℕ) (dev : Next) (d : Done) (e : DmaBufError) → d ≡ judged (sound dir r len) → d ≡ done.Refused e
+    → stand.Refused BadState ≡ standOf dir r len dev
+stand-refused dir r len dev d e p q = let s : sound dir r len ≡ false = refused-judged (sound dir r len) d e p q in rw s
 
 -- a device that was found on record i stands there, and the ring is sound
 pub record Found (dir : TransferDirection) (r : Ring) (len : ℕ) (dev : Next) (i : ℕ) : Type 0 where
@@ -67,8 +68,10 @@ part-small dir r len dev i f =
     let s = facts dir r len (f .sound-is) .split in
     rw (s .size i (f .below)) (size-most (r .count) len i (s .parts))
 
--- a record closed
-pub close-lifts : (st : List ℕ) (i k : ℕ) (eof : Bool) → Lifts st (closeCells i k eof) (λ ds. update ds i (closed k eof))
-close-lifts st i k eof =
-    lifts-more st _ (λ ws. putOwner ws i Cpu) i (λ d. withEof eof (withLength k d)) (withOwner Cpu)
-    (lifts-more st _ _ i (withLength k) (withEof eof) (length-lifts st i k) (eof-lifts st i eof)) (owner-lifts st i Cpu)
+-- the words hold records, and show the one on which the device stands
+pub words-held : (dir : TransferDirection) (st ws : List ℕ) (h : Head) (len : ℕ) (dev : Next) (i : ℕ) → standOf dir (ringOf st ws h) len dev ≡ stand.On i → areRecords st ws ≡ true
+words-held dir st ws h len dev i e = split-records st ws h len (sound-split dir (ringOf st ws h) len (found dir (ringOf st ws h) len dev i e .sound-is))
+
+pub seen : (dir : TransferDirection) (st ws : List ℕ) (h : Head) (len : ℕ) (dev : Next) (i : ℕ) → standOf dir (ringOf st ws h) len dev ≡ stand.On i
+    → recordOf (ringOf st ws h) i ≡ recordAt st ws i
+seen dir st ws h len dev i e = record-is st ws (words-held dir st ws h len dev i e) i

@@ -6,8 +6,14 @@ use mathlib.Core.Logic.{_⊎_, inl, inr, ⊎-elim}
 use native.Mathlib.Omega.{arith}
 use lib.Dec.{leb, ltb}
 use borrow.Author.Tests.{ltb-true, ltb-false, leb-true, leb-false, lt-ltb, le-ltb, lt-leb}
-use Rattle.psram.specs.Cut.{line, Sides, grown, headOf, tailOf, planOf}
+use Rattle.psram.specs.Cut.{line, leastOf, bounceOf, Sides, grown, headOf, tailOf, planOf}
+use Rattle.psram.specs.declared.chip.Chip.{Chip}
+use Rattle.psram.specs.declared.chip.Chip.the-variants.{Ordinary, S2}
 use Rattle.psram.specs.declared.plan.Plan.{Plan}
+
+pub sides : (chip : Chip) → Sides (leastOf chip) (bounceOf chip)
+sides Ordinary = record { some = omega arith; short = omega arith; room = omega arith; small = omega arith }
+sides S2 = record { some = omega arith; short = omega arith; room = omega arith; small = omega arith }
 
 -- an outer part grows by a line where it is below least, or stays
 grown-by : (least size : ℕ) → (grown least size ≡ size) ⊎ ((grown least size ≡ size + line) × ((0 < size) × (size < least)))

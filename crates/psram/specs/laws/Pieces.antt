@@ -11,9 +11,9 @@ use Rattle.descriptors.specs.declared.refusal.DmaBufError.the-variants.{TooMany
 use Rattle.descriptors.specs.declared.refusal.DmaBufError.{DmaBufError}
 use Rattle.descriptors.specs.declared.refusal.Done.{Done}
 use Rattle.descriptors.specs.declared.refusal.Done.the-variants as done
-use Rattle.psram.specs.Cut.{piece, top, leastOf, bounceOf, sides, planFor}
+use Rattle.psram.specs.Cut.{piece, top, leastOf, bounceOf, planFor}
 use Rattle.psram.specs.Piece.{Small, bytesOf, some, directs, directOf, pieceOf, startIn, sizeIn, readyOf, numberedBy, numberedOf}
-use Rattle.psram.specs.laws.Parts.{Parted, parted, bounce-is}
+use Rattle.psram.specs.laws.Parts.{Parted, parted, bounce-is, sides}
 use Rattle.psram.specs.declared.chip.Chip.{Chip}
 use Rattle.psram.specs.declared.plan.Plan.{Plan}
 use Rattle.psram.specs.declared.held.Held.{Held}

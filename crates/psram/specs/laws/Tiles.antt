@@ -10,10 +10,10 @@ use lib.Dec.{eqb}
 use lib.ListN.{length, take, drop}
 use lib.Seq.{take-add, take-length}
 use borrow.Author.Tests.{eqb-true, eqb-false, ne-eqb, lt-ltb, le-ltb}
-use Rattle.psram.specs.Cut.{line, piece, leastOf, bounceOf, sides, planFor}
+use Rattle.psram.specs.Cut.{line, piece, leastOf, bounceOf, planFor}
 use Rattle.psram.specs.Piece.{bytesOf, some, directs, piecesOf, directOf, pieceOf, sizeIn}
 use Rattle.psram.specs.List.{coveredOf, usedOf}
-use Rattle.psram.specs.laws.Parts.{Parted, parted, bounce-is}
+use Rattle.psram.specs.laws.Parts.{Parted, parted, bounce-is, sides}
 use Rattle.psram.specs.laws.Pieces.{some-le, Lies, lies}
 use Rattle.psram.specs.declared.chip.Chip.{Chip}
 use Rattle.psram.specs.declared.plan.Plan.{Plan}

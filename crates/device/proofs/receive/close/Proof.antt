@@ -1,11 +1,6 @@
 use borrow.Author.Needs.{needs}
 use Rattle.device.proofs.receive.close.Statement.{statement}
 use Rattle.device.proofs.receive.close.Tie as tie
-use Rattle.device.proofs.receive.close.Reads as reads
-use Rattle.device.proofs.receive.close.Lts as lts
-use Rattle.descriptors.proofs.cells.set_length.Reads as set-length-reads
-use Rattle.descriptors.proofs.cells.set_owner.Reads as set-owner-reads
-use Rattle.descriptors.proofs.cells.set_suc_eof.Reads as set-suc-eof-reads
 
 set-length-requires : tie.Need-set-length-requires
 set-length-requires c κs = search needs

@@ -1,95 +1,109 @@
+use Prim.Native.Nat.{_+_, _≤_}
+use mathlib.Core.Bool.{true}
+use mathlib.Core.Path.{_≡_, sym, _∙_}
+use native.Mathlib.Omega.{arith}
+use borrow.Author.Tests.{not-true, not-false}
 use borrow.Author.Needs.{needs}
+use lib.ListN.{length}
+use Rattle.descriptors.specs.declared.record.TransferDirection.the-variants.{In}
+use Rattle.descriptors.specs.Ring.{ringOf}
+use Rattle.descriptors.specs.Cells.{recordAt, startAt}
+use Rattle.descriptors.specs.Record.{most}
+use Rattle.device.specs.declared.stand.Stand.the-variants as stand
+use Rattle.device.specs.laws.Receive.{receive-refused, receive-unfit, receive-inside, receive-small, receive-done}
+use Rattle.device.specs.Device.{standOf, fits}
 use Rattle.device.proofs.receive.receive_step_in.Statement.{statement}
 use Rattle.device.proofs.receive.receive_step_in.Tie as tie
-use Rattle.device.proofs.receive.receive_step_in.Reads as reads
-use Rattle.device.proofs.receive.receive_step_in.Lts as lts
-use Rattle.descriptors.proofs.cells.next_of.Reads as next-of-reads
-use Rattle.descriptors.proofs.cells.size_of.Reads as size-of-reads
-use Rattle.descriptors.proofs.cells.start_of.Reads as start-of-reads
-use Rattle.device.proofs.receive.close.Reads as close-reads
-use Rattle.device.proofs.receive.place.Reads as place-reads
-use Rattle.device.proofs.receive.refused.Reads as refused-reads
-use Rattle.device.proofs.stand.find.Reads as find-reads
 
--- src/receive.rt:64:9
+abbrev start : tie.After-find → tie.Start
+start f = f .before .before .before .before .before .before
+
+-- the device stands on a record of a sound ring
+stood : (t : tie.After-known-told) → let a = start (t .before .before .before) .args in
+    standOf In (ringOf (a .s .now) (a .w .now) (a .h)) (length (a .buffer .now)) (a .device) ≡ stand.On (t .before .found .given .0 .0)
+stood t = sym (t .before .before .before .find .ensures) ∙ t .before .found .given .1
+
+-- and the step's bytes fit it
+fit : (e : tie.Else1) → let t = e .before .before .before in let a = start (t .before .before .before) .args in
+    fits (length (a .incoming .now)) (recordAt (a .s .now) (a .w .now) (t .before .found .given .0 .0)) ≡ true
+fit e = sym (e .before .step-fits .ensures) ∙ not-false _ (e .if1 .left)
+
+inside : (e : tie.Else1) → let t = e .before .before .before in let a = start (t .before .before .before) .args in
+    startAt (a .s .now) (t .before .found .given .0 .0) + length (a .incoming .now) ≤ length (a .buffer .now)
+inside e =
+    let t = e .before .before .before in
+    let a = start (t .before .before .before) .args in
+    receive-inside (a .s .now) (a .w .now) (a .h) (a .device) (a .buffer .now) (a .incoming .now) (a .eof) _ (stood t) (fit e)
+
+small : (e : tie.Else1) → length (start (e .before .before .before .before .before .before) .args .incoming .now) ≤ most
+small e =
+    let t = e .before .before .before in
+    let a = start (t .before .before .before) .args in
+    receive-small (a .s .now) (a .w .now) (a .h) (a .device) (a .buffer .now) (a .incoming .now) (a .eof) _ (stood t) (fit e)
+
 find-requires : tie.Need-find-requires
 find-requires c κs = search needs
 
--- src/receive.rt:65:19
 enum-known-found : tie.Need-enum-known-found
 enum-known-found c = search needs
 
--- src/receive.rt:68:21
 enum-told : tie.Need-enum-told
 enum-told c = search needs
 
--- src/receive.rt:68:21
 refused-requires : tie.Need-refused-requires
 refused-requires c κs = search needs
 
--- src/receive.rt:66:9
 same-length : tie.Need-same-length
 same-length c = search needs
 
--- src/receive.rt:66:9
 returns : tie.Need-returns
-returns c = ?
+returns c =
+    let t = c .before in
+    let a = start (t .before .before) .args in
+    receive-refused (a .s .now) (a .w .now) (a .h) (a .device) (a .buffer .now) (a .incoming .now) (a .eof) _ _ _ (t .before .before .find .ensures) (t .enum-told .given .1) (c .refused .ensures)
 
--- src/receive.rt:73:9
+step-fits-requires : tie.Need-step-fits-requires
+step-fits-requires c κs = search needs
+
 same-length-2 : tie.Need-same-length-2
 same-length-2 c = search needs
 
--- src/receive.rt:73:9
 returns-2 : tie.Need-returns-2
-returns-2 c = ?
+returns-2 c =
+    let t = c .before .before .before in
+    let a = start (t .before .before .before) .args in
+    receive-unfit (a .s .now) (a .w .now) (a .h) (a .device) (a .buffer .now) (a .incoming .now) (a .eof) _ (stood t) (sym (c .before .step-fits .ensures) ∙ not-true _ (c .if1 .taken))
 
--- src/receive.rt:78:8
-size-of-requires : tie.Need-size-of-requires
-size-of-requires c κs = search needs
-
--- src/receive.rt:79:9
-same-length-3 : tie.Need-same-length-3
-same-length-3 c = search needs
-
--- src/receive.rt:79:9
-returns-3 : tie.Need-returns-3
-returns-3 c = ?
-
--- src/receive.rt:84:9
 next-of-requires : tie.Need-next-of-requires
 next-of-requires c κs = search needs
 
--- src/receive.rt:85:17
 start-of-requires : tie.Need-start-of-requires
 start-of-requires c κs = search needs
 
--- src/receive.rt:85:17
 cast-start : tie.Need-cast-start
 cast-start c = search needs
 
--- src/receive.rt:86:5
 place-requires : tie.Need-place-requires
-place-requires c κs = ?
+place-requires c κs = omega (arith, c .before .start-of .ensures, inside (c .before .before .before .before))
 
--- src/receive.rt:87:17
 cast-close : tie.Need-cast-close
-cast-close c = search needs
+cast-close c = omega (arith, small (c .before .before .before .before .before .before .before .before))
 
--- src/receive.rt:87:5
 close-requires : tie.Need-close-requires
 close-requires c κs = search needs
 
--- src/receive.rt:53:1
+same-length-3 : tie.Need-same-length-3
+same-length-3 c = search needs
+
 same-length-4 : tie.Need-same-length-4
 same-length-4 c = search needs
 
--- src/receive.rt:53:1
-same-length-5 : tie.Need-same-length-5
-same-length-5 c = search needs
-
--- src/receive.rt:53:1
-returns-4 : tie.Need-returns-4
-returns-4 c = ?
+returns-3 : tie.Need-returns-3
+returns-3 c =
+    let e = c .before .before .before .before .before .before .before .before .before .before .before in
+    let t = e .before .before .before in
+    let a = start (t .before .before .before) .args in
+    receive-done (a .s .now) (a .w .now) (a .h) (a .device) (a .buffer .now) (a .incoming .now) (a .eof) _ (stood t) (fit e) _ _ _ _ (c .before .before .before .before .before .before .before .before .before .next-of .ensures) (c .before .before .before .before .before .before .before .before .start-of .ensures) (c .before .before .before .before .before .before .place .ensures) (c .before .before .close .ensures)
 
 pub receive-step-in-spec : {M : Type 1} → statement M
 receive-step-in-spec =
@@ -101,17 +115,15 @@ receive-step-in-spec =
     refused-requires
     same-length
     returns
+    step-fits-requires
     same-length-2
     returns-2
-    size-of-requires
-    same-length-3
-    returns-3
     next-of-requires
     start-of-requires
     cast-start
     place-requires
     cast-close
     close-requires
+    same-length-3
     same-length-4
-    same-length-5
-    returns-4)
+    returns-3)

@@ -1,17 +1,8 @@
-use Rattle.device.specs.Device.{standDone}
-use lib.ListN.{getD, length}
-use lib.Dec.{eqb, leb, ltb}
-use native.Mathlib.Omega.{arith}
-use mathlib.Core.Logic.{⊎-elim}
-use mathlib.Core.List.{List, []}
-use mathlib.Core.Bool.{Bool, true, false, cond, _&&_}
-use mathlib.Core.Path.{_≡_, sym, ap, _∙_, refl}
-use Prim.Native.Nat.{ℕ, suc, _+_, _-_, _*_, _≤_, _<_}
+use mathlib.Core.Path.{sym, ap}
 use borrow.Author.Needs.{needs}
+use Rattle.device.specs.Faces.{standDone}
 use Rattle.device.proofs.receive.refused.Statement.{statement}
 use Rattle.device.proofs.receive.refused.Tie as tie
-use Rattle.device.proofs.receive.refused.Reads as reads
-use Rattle.device.proofs.receive.refused.Lts as lts
 
 enum-told : tie.Need-enum-told
 enum-told c = search needs

@@ -1,18 +1,9 @@
-use Rattle.device.specs.Device.{standsOn}
-use borrow.Author.Tests.{eq-eqb, ne-eqb, lt-ltb, le-ltb, le-leb, lt-leb, not-true, not-false}
-use lib.ListN.{getD, length}
-use lib.Dec.{eqb, leb, ltb}
-use native.Mathlib.Omega.{arith}
-use mathlib.Core.Logic.{⊎-elim}
-use mathlib.Core.List.{List, []}
-use mathlib.Core.Bool.{Bool, true, false, cond, _&&_}
-use mathlib.Core.Path.{_≡_, sym, ap, _∙_, refl}
-use Prim.Native.Nat.{ℕ, suc, _+_, _-_, _*_, _≤_, _<_}
+use mathlib.Core.Path.{sym, ap, _∙_}
+use borrow.Author.Tests.{lt-ltb, le-ltb}
 use borrow.Author.Needs.{needs}
+use Rattle.device.specs.Device.{standsOn}
 use Rattle.device.proofs.stand.on_record.Statement.{statement}
 use Rattle.device.proofs.stand.on_record.Tie as tie
-use Rattle.device.proofs.stand.on_record.Reads as reads
-use Rattle.device.proofs.stand.on_record.Lts as lts
 
 enum-told : tie.Need-enum-told
 enum-told c = search needs

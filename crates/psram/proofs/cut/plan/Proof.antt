@@ -1,4 +1,4 @@
-use Rattle.psram.specs.Cut.{sides}
+use Rattle.psram.specs.laws.Parts.{sides}
 use mathlib.Core.Path.{_∙_}
 use borrow.Author.Needs.{needs}
 use Rattle.psram.proofs.cut.plan.Statement.{statement}

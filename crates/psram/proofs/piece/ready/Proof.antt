@@ -1,9 +1,10 @@
+use Rattle.psram.specs.laws.Parts.{sides}
 use Rattle.descriptors.specs.Record.{limit}
 use lib.Dec.{ltb, leb}
 use mathlib.Core.Bool.{true, false}
 use mathlib.Core.Path.{_≡_, sym, _∙_}
 use Prim.Native.Nat.{_*_, _<_, _≤_}
-use Rattle.psram.specs.Cut.{sides, bounceOf}
+use Rattle.psram.specs.Cut.{bounceOf}
 use Rattle.psram.specs.Piece.{readyOf}
 use native.Mathlib.Omega.{arith}
 use borrow.Author.Tests.{lt-ltb, le-ltb, le-leb, lt-leb, not-true, not-false}

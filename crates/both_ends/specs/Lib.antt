@@ -1,0 +1,3 @@
+pub mod Demand3Receive
+pub mod receive
+pub mod ExampleReceive

@@ -1,0 +1,12 @@
+pub mod Places
+pub mod Lists
+pub mod Tests
+pub mod Geometry
+pub mod Shape
+pub mod Stores
+pub mod View
+pub mod Queue
+pub mod Give
+pub mod Skeleton
+pub mod Order
+pub mod Begin

@@ -1,0 +1,1 @@
+// Both ends of a transmit ring: theorems only.
