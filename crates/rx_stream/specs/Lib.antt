@@ -1,1 +1,4 @@
 pub mod Receive
+pub mod Pieces
+pub mod Faces
+pub mod laws

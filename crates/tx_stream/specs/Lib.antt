@@ -1,1 +1,4 @@
 pub mod Transmit
+pub mod Faces
+pub mod Values
+pub mod laws

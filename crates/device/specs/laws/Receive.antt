@@ -31,7 +31,10 @@ use Rattle.device.specs.declared.receive.Received.{Received}
 use Rattle.device.specs.declared.stand.Stand.{Stand}
 use Rattle.device.specs.declared.stand.Stand.the-variants as stand
 
--- a record closed
+-- a record closed, by its three stores
+pub close-stores : (i k : ℕ) (eof : Bool) (ws a b c : List ℕ) → a ≡ putLength ws i k → b ≡ putEof a i eof → c ≡ putOwner b i Cpu → c ≡ closeCells i k eof ws
+close-stores i k eof ws a b c p q r = r ∙ ap (λ (vs : List ℕ). putOwner vs i Cpu) (q ∙ ap (λ (vs : List ℕ). putEof vs i eof) p)
+
 pub close-lifts : (st : List ℕ) (i k : ℕ) (eof : Bool) → Lifts st (closeCells i k eof) (λ ds. update ds i (closed k eof))
 close-lifts st i k eof =
     lifts-more st (λ ws. putEof (putLength ws i k) i eof) (λ ws. putOwner ws i Cpu) i (λ d. withEof eof (withLength k d)) (withOwner Cpu)

@@ -1,4 +1,5 @@
 use borrow.Author.Needs.{needs}
+use Rattle.device.specs.laws.Receive.{close-stores}
 use Rattle.device.proofs.receive.close.Statement.{statement}
 use Rattle.device.proofs.receive.close.Tie as tie
 
@@ -15,7 +16,9 @@ same-length : tie.Need-same-length
 same-length c = search needs
 
 returns : tie.Need-returns
-returns c = cc
+returns c =
+    let a = c .before .before .before .before .before .before .before .before .before .before .before .before .before .args in
+    close-stores (a .i) (a .k) (a .eof) (a .w .now) _ _ _ (c .before .before .before .before .before .before .before .before .before .before .set-length .ensures) (c .before .before .before .before .before .before .set-suc-eof .ensures) (c .before .before .set-owner .ensures)
 
 pub close-spec : {M : Type 1} → statement M
 close-spec =

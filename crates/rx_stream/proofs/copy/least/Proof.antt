@@ -1,0 +1,15 @@
+use borrow.Author.Tests.{eq-eqb, ne-eqb, lt-ltb, le-ltb, le-leb, lt-leb, not-true, not-false}
+use mathlib.Core.Path.{_≡_, sym, ap, _∙_, refl}
+use Rattle.rx_stream.proofs.copy.least.Statement.{statement}
+use Rattle.rx_stream.proofs.copy.least.Tie as tie
+use Rattle.rx_stream.proofs.copy.least.Reads as reads
+use Rattle.rx_stream.proofs.copy.least.Lts as lts
+
+returns : tie.Need-returns
+returns c = sym (rw (lt-ltb _ _ (c .if1 .taken)))
+
+returns-2 : tie.Need-returns-2
+returns-2 c = sym (rw (le-ltb _ _ (c .if1 .left)))
+
+pub least-spec : {M : Type 1} → statement M
+least-spec = tie.close (tie.spec returns returns-2)

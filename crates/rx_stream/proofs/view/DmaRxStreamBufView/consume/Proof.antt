@@ -1,0 +1,34 @@
+use Rattle.rx_stream.specs.declared.in_place.Consuming.{Consuming}
+use Rattle.rx_stream.specs.Receive.{consumeOf, prepareOf}
+use Rattle.descriptors.specs.Ring.{ringOf, headOf}
+use mathlib.Core.List.{List, []}
+use Prim.Native.Nat.{ℕ, suc, _+_, _-_, _*_, _≤_, _<_}
+use mathlib.Core.Path.{_≡_, sym, ap, _∙_, refl}
+use borrow.Author.Needs.{needs}
+use Rattle.rx_stream.proofs.view.DmaRxStreamBufView.consume.Statement.{statement}
+use Rattle.rx_stream.proofs.view.DmaRxStreamBufView.consume.Tie as tie
+use Rattle.rx_stream.proofs.view.DmaRxStreamBufView.consume.Reads as reads
+use Rattle.rx_stream.proofs.view.DmaRxStreamBufView.consume.Lts as lts
+use Rattle.rx_stream.proofs.in_place.consume_in.Reads as consume-in-reads
+
+slice-aggregate-consume-in : tie.Need-slice-aggregate-consume-in
+slice-aggregate-consume-in c = search needs
+
+slice-aggregate-consume-in-2 : tie.Need-slice-aggregate-consume-in-2
+slice-aggregate-consume-in-2 c = search needs
+
+consume-in-requires : tie.Need-consume-in-requires
+consume-in-requires c κs = search needs
+
+returns : tie.Need-returns
+returns c =
+    let m = c .before .before in
+    let a = m .before .before .before .before .before .before .args in
+    let o = consumeOf (ringOf (a .self .starts) (a .self .cells) (a .self .head)) (a .len) (a .k) in
+    ap (λ (x : Consuming). record { ring = record { starts = a .self .starts; cells = m .consume-in .last .1 .0; head = x .head }; answer = x .answer }) (m .consume-in .ensures .1)
+    ∙ ap (λ (x : List ℕ). record { ring = record { starts = a .self .starts; cells = x; head = headOf (o .ring) }; answer = o .answer }) (m .consume-in .ensures .0)
+
+pub consume-spec : {M : Type 1} → statement M
+consume-spec =
+    tie.close
+    (tie.spec slice-aggregate-consume-in slice-aggregate-consume-in-2 consume-in-requires returns)

@@ -1,0 +1,40 @@
+use Rattle.tx_stream.specs.laws.Values.{pushed-by, commit-keeps}
+use Rattle.tx_stream.specs.Values.{bufRing}
+use lib.ListN.{getD, length}
+use lib.Dec.{eqb, leb, ltb}
+use native.Mathlib.Omega.{arith}
+use mathlib.Core.Logic.{⊎-elim}
+use mathlib.Core.List.{List, []}
+use mathlib.Core.Bool.{Bool, true, false, cond, _&&_}
+use mathlib.Core.Path.{_≡_, sym, ap, _∙_, refl}
+use Prim.Native.Nat.{ℕ, suc, _+_, _-_, _*_, _≤_, _<_}
+use borrow.Author.Needs.{needs}
+use Rattle.tx_stream.proofs.buf.DmaTxStreamBuf.commit.Statement.{statement}
+use Rattle.tx_stream.proofs.buf.DmaTxStreamBuf.commit.Tie as tie
+use Rattle.tx_stream.proofs.buf.DmaTxStreamBuf.commit.Reads as reads
+use Rattle.tx_stream.proofs.buf.DmaTxStreamBuf.commit.Lts as lts
+use Rattle.tx_stream.proofs.prefill.prefill_commit_in.Reads as prefill-commit-in-reads
+
+slice-aggregate-prefill-commit-in : tie.Need-slice-aggregate-prefill-commit-in
+slice-aggregate-prefill-commit-in c = search needs
+
+slice-aggregate-prefill-commit-in-2 : tie.Need-slice-aggregate-prefill-commit-in-2
+slice-aggregate-prefill-commit-in-2 c = search needs
+
+prefill-commit-in-requires : tie.Need-prefill-commit-in-requires
+prefill-commit-in-requires c κs = search needs
+
+returns : tie.Need-returns
+returns c =
+    let m = c .before in
+    let a = m .before .before .before .before .before .before .args in
+    pushed-by (a .self) (m .prefill-commit-in .result) _ (commit-keeps (bufRing (a .self)) (a .len) (a .k)) (m .prefill-commit-in .ensures)
+
+pub commit-spec : {M : Type 1} → statement M
+commit-spec =
+    tie.close
+    (tie.spec
+    slice-aggregate-prefill-commit-in
+    slice-aggregate-prefill-commit-in-2
+    prefill-commit-in-requires
+    returns)

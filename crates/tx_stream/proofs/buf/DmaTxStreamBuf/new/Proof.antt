@@ -1,0 +1,34 @@
+use Rattle.tx_stream.specs.laws.Values.{built-by}
+use lib.ListN.{getD, length}
+use lib.Dec.{eqb, leb, ltb}
+use native.Mathlib.Omega.{arith}
+use mathlib.Core.Logic.{⊎-elim}
+use mathlib.Core.List.{List, []}
+use mathlib.Core.Bool.{Bool, true, false, cond, _&&_}
+use mathlib.Core.Path.{_≡_, sym, ap, _∙_, refl}
+use Prim.Native.Nat.{ℕ, suc, _+_, _-_, _*_, _≤_, _<_}
+use borrow.Author.Needs.{needs}
+use Rattle.tx_stream.proofs.buf.DmaTxStreamBuf.new.Statement.{statement}
+use Rattle.tx_stream.proofs.buf.DmaTxStreamBuf.new.Tie as tie
+use Rattle.tx_stream.proofs.buf.DmaTxStreamBuf.new.Reads as reads
+use Rattle.tx_stream.proofs.buf.DmaTxStreamBuf.new.Lts as lts
+use Rattle.descriptors.proofs.ring.new_in.Reads as new-in-reads
+
+slice-aggregate-new-in : tie.Need-slice-aggregate-new-in
+slice-aggregate-new-in c = search needs
+
+slice-aggregate-new-in-2 : tie.Need-slice-aggregate-new-in-2
+slice-aggregate-new-in-2 c = search needs
+
+new-in-requires : tie.Need-new-in-requires
+new-in-requires c κs = search needs
+
+returns : tie.Need-returns
+returns c =
+    let m = c .before .before .before in
+    let a = m .before .before .before .before .args in
+    built-by (a .starts) (a .cells) _ _ (a .n) (length (a .buffer .now)) (m .new-in .result) (m .new-in .ensures)
+
+pub new-spec : {M : Type 1} → statement M
+new-spec =
+    tie.close (tie.spec slice-aggregate-new-in slice-aggregate-new-in-2 new-in-requires returns)

@@ -1,0 +1,35 @@
+use Rattle.tx_stream.specs.laws.Values.{advanced-by}
+use lib.ListN.{getD, length}
+use lib.Dec.{eqb, leb, ltb}
+use native.Mathlib.Omega.{arith}
+use mathlib.Core.Logic.{⊎-elim}
+use mathlib.Core.List.{List, []}
+use mathlib.Core.Bool.{Bool, true, false, cond, _&&_}
+use mathlib.Core.Path.{_≡_, sym, ap, _∙_, refl}
+use Prim.Native.Nat.{ℕ, suc, _+_, _-_, _*_, _≤_, _<_}
+use borrow.Author.Needs.{needs}
+use Rattle.tx_stream.proofs.view.DmaTxStreamBufView.commit.Statement.{statement}
+use Rattle.tx_stream.proofs.view.DmaTxStreamBufView.commit.Tie as tie
+use Rattle.tx_stream.proofs.view.DmaTxStreamBufView.commit.Reads as reads
+use Rattle.tx_stream.proofs.view.DmaTxStreamBufView.commit.Lts as lts
+use Rattle.tx_stream.proofs.in_place.commit_in.Reads as commit-in-reads
+
+slice-aggregate-commit-in : tie.Need-slice-aggregate-commit-in
+slice-aggregate-commit-in c = search needs
+
+slice-aggregate-commit-in-2 : tie.Need-slice-aggregate-commit-in-2
+slice-aggregate-commit-in-2 c = search needs
+
+commit-in-requires : tie.Need-commit-in-requires
+commit-in-requires c κs = search needs
+
+returns : tie.Need-returns
+returns c =
+    let m = c .before .before in
+    let a = m .before .before .before .before .before .before .args in
+    advanced-by (a .self) _ (m .commit-in .result) _ (m .commit-in .ensures .0) (m .commit-in .ensures .1)
+
+pub commit-spec : {M : Type 1} → statement M
+commit-spec =
+    tie.close
+    (tie.spec slice-aggregate-commit-in slice-aggregate-commit-in-2 commit-in-requires returns)
