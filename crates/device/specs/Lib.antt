@@ -1,3 +1,4 @@
 pub mod Device
 pub mod Faces
+pub mod Values
 pub mod laws

@@ -3,3 +3,4 @@ pub mod Bytes
 pub mod Steps
 pub mod Receive
 pub mod Transmit
+pub mod Values

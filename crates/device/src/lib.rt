@@ -2,3 +2,4 @@
 pub mod stand; // stand.rt: where a step finds the device
 pub mod receive; // receive.rt: the receive step
 pub mod transmit; // transmit.rt: the transmit step
+pub mod by_value; // by_value.rt: both steps with the ring by value
