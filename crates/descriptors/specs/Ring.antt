@@ -100,7 +100,7 @@ sound dir r len =
     && (lengthsOk (r .descriptors) (r .count)
     && (nextsOk (r .descriptors) (r .count) && (ltb (r .idx) (r .count) && offsetOk dir (recordOf r (r .idx)) (r .offset))))
 
--- "BadState: ring not sound": given first, and nothing is changed
+-- 5, BadState: "ring not sound"
 abbrev pub judged : Bool → Done
 judged true = Ready
 judged false = Refused BadState

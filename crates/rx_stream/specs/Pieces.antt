@@ -1,7 +1,7 @@
 -- How pop finds the bytes that it copies at one go. Nothing here is a rule of document 01: laws/ shows that the pieces, one after
 -- another, are the bytes of the CPU-owned run.
 use Prim.Native.Nat.{ℕ, zero, suc, _+_, _-_}
-use mathlib.Core.Bool.{Bool, true, false, cond, _||_}
+use mathlib.Core.Bool.{cond, _||_}
 use lib.Dec.{leb, ltb}
 use Rattle.descriptors.specs.Record.{isCpu}
 use Rattle.descriptors.specs.declared.record.DmaDescriptor.{DmaDescriptor}

@@ -74,8 +74,8 @@ pub fn commit_in(s: &[u32], w: &mut [u16], h: Head, len: usize, k: usize) -> Acc
         return answer::refused(h, answer);
     };
     let at = room::write_position(s, h);
-    let bound = room::offered(w, h, at, len);
-    accept::accept_up_to(w, h, k, bound)
+    let part = room::offered(w, h, at, len);
+    accept::accept_up_to(w, h, k, part)
 }
 
 // The bytes then standing from the cursor on are accepted, k of them.

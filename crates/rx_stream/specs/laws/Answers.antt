@@ -1,11 +1,11 @@
 -- What each rule answers, once the judge has spoken.
 use Prim.Native.Nat.{ℕ, _-_}
-use mathlib.Core.Path.{_≡_, refl, sym, _∙_, ap}
-use mathlib.Core.Bool.{Bool, true, false, cond}
+use mathlib.Core.Path.{_≡_}
+use mathlib.Core.Bool.{Bool, true, false}
 use mathlib.Core.List.{List, []}
 use lib.ListN.{length, take, drop}
 use Rattle.descriptors.specs.Record.{recordIn}
-use Rattle.descriptors.specs.Ring.{Ring, Outcome, refused, sound, splitSound}
+use Rattle.descriptors.specs.Ring.{Ring, refused, sound, splitSound}
 use Rattle.descriptors.specs.Walk.{availableIn, standing, advanced, takenIn, planned}
 use Rattle.descriptors.specs.declared.record.TransferDirection.the-variants.{In}
 use Rattle.descriptors.specs.declared.refusal.DmaBufError.the-variants.{BadState}

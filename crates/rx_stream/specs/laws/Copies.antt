@@ -1,5 +1,5 @@
 -- A piece of the CPU-owned run, copied over the front of what is left of a destination.
-use Prim.Native.Nat.{ℕ, zero, suc, _+_, _-_, _≤_, _<_}
+use Prim.Native.Nat.{ℕ, _+_, _-_, _≤_, _<_}
 use mathlib.Core.Path.{_≡_, refl, sym, _∙_, ap}
 use mathlib.Core.Bool.{Bool, true, false, cond}
 use mathlib.Core.List.{List, [], _++_}
@@ -13,7 +13,6 @@ use Rattle.descriptors.specs.Cells.{recordsOf, recordAt, startAt}
 use Rattle.descriptors.specs.Ring.{ringOf, sound}
 use Rattle.descriptors.specs.Walk.{runData}
 use Rattle.descriptors.specs.laws.Lifts.{record-is}
-use Rattle.descriptors.specs.laws.Sound.{Facts}
 use Rattle.descriptors.specs.declared.record.DmaDescriptor.{DmaDescriptor}
 use Rattle.descriptors.specs.declared.record.TransferDirection.the-variants.{In}
 use Rattle.descriptors.specs.declared.ring.Head.{Head}

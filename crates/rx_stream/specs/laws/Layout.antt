@@ -1,6 +1,6 @@
 -- How the records of a sound ring lie in the buffer: one behind another, none past its end.
-use Prim.Native.Nat.{ℕ, zero, suc, _+_, _-_, _*_, _/_, _%_, _≤_, _<_}
-use mathlib.Core.Path.{_≡_, refl, sym, _∙_, ap}
+use Prim.Native.Nat.{ℕ, _+_, _*_, _/_, _%_, _≤_, _<_}
+use mathlib.Core.Path.{_≡_, refl, ap}
 use mathlib.Core.Bool.{Bool, true, false, cond}
 use native.Mathlib.Omega.{arith}
 use native.Mathlib.Nat.{div-add-mod, mul-div-le, mul-le-mul-right}
@@ -8,7 +8,7 @@ use borrow.Author.Tests.{eqb-true, eqb-false, ne-eqb}
 use lib.Dec.{eqb}
 use Rattle.descriptors.specs.Record.{recordIn}
 use Rattle.descriptors.specs.Split.{startOf, sizeOf}
-use Rattle.descriptors.specs.Ring.{Ring, recordOf}
+use Rattle.descriptors.specs.Ring.{Ring}
 use Rattle.descriptors.specs.laws.Splits.{next-start}
 use Rattle.descriptors.specs.laws.Sound.{Facts}
 use Rattle.descriptors.specs.declared.record.DmaDescriptor.{DmaDescriptor}

@@ -1,14 +1,12 @@
 -- The part that peek hands back lies in the buffer.
 use Prim.Native.Nat.{ℕ, zero, suc, _+_, _-_, _≤_, _<_}
-use mathlib.Core.Path.{_≡_, refl, sym, _∙_, ap}
-use mathlib.Core.Bool.{Bool, true, false, cond, _||_}
-use mathlib.Core.List.{List, []}
+use mathlib.Core.Path.{_≡_, refl, ap}
+use mathlib.Core.Bool.{Bool, true, false, _||_}
 use native.Mathlib.Omega.{arith}
 use borrow.Author.Tests.{ltb-true, ltb-false}
 use lib.Dec.{ltb}
 use Rattle.descriptors.specs.Record.{recordIn, isCpu}
 use Rattle.descriptors.specs.Ring.{Ring, recordOf}
-use Rattle.descriptors.specs.laws.Tests.{not-both}
 use Rattle.descriptors.specs.laws.Sound.{Facts, offset-least, offset-dma}
 use Rattle.descriptors.specs.declared.record.DmaDescriptor.{DmaDescriptor}
 use Rattle.descriptors.specs.declared.record.TransferDirection.the-variants.{In}

@@ -2,14 +2,13 @@
 use Prim.Native.Nat.{ℕ, zero, suc, _+_, _-_, _≤_, _<_}
 use mathlib.Core.Path.{_≡_, refl, sym, _∙_, ap}
 use mathlib.Core.Bool.{Bool, true, false, cond, _||_}
-use mathlib.Core.List.{List, [], _++_, append-assoc}
+use mathlib.Core.List.{List, _++_, append-assoc}
 use native.Mathlib.Omega.{arith}
 use borrow.Author.Tests.{ltb-true, ltb-false, lt-ltb}
 use lib.Dec.{leb, ltb}
 use lib.ListN.{length, take, drop}
 use lib.Seq.{take-add, drop-drop}
 use Rattle.descriptors.specs.Record.{isCpu}
-use Rattle.descriptors.specs.Place.{after}
 use Rattle.descriptors.specs.Walk.{runData}
 use Rattle.descriptors.specs.laws.Tests.{not-both}
 use Rattle.descriptors.specs.declared.record.DmaDescriptor.{DmaDescriptor}

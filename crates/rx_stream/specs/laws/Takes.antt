@@ -1,16 +1,16 @@
 -- What is taken from the words is what is taken from the records that they show.
-use Prim.Native.Nat.{ℕ, _+_, _-_, _%_, _^_, _≤_, _<_}
+use Prim.Native.Nat.{ℕ, _+_, _%_, _^_, _≤_}
 use mathlib.Core.Path.{_≡_, refl, sym, _∙_, ap}
-use mathlib.Core.Bool.{Bool, true, false, cond, _&&_, _||_}
+use mathlib.Core.Bool.{Bool, true, false, _&&_, _||_}
 use mathlib.Core.List.{List, []}
 use native.Mathlib.Omega.{arith}
 use lib.Dec.{eqb}
-use Rattle.descriptors.specs.Record.{limit, recordIn, isCpu, upTo}
+use Rattle.descriptors.specs.Record.{recordIn, isCpu, upTo}
 use Rattle.descriptors.specs.Place.{turns}
 use Rattle.descriptors.specs.Cells.{areRecords, recordsOf, recordAt, cellsNow}
 use Rattle.descriptors.specs.Stores.{handCells, linkCells}
 use Rattle.descriptors.specs.Ring.{Ring, ringOf, headOf, recordOf, sound, splitSound, linkedAll, judged}
-use Rattle.descriptors.specs.Walk.{walk, begun, planned, movedTo, advanced, takenIn, runBytes}
+use Rattle.descriptors.specs.Walk.{begun, planned, movedTo, advanced, takenIn, runBytes}
 use Rattle.descriptors.specs.laws.Stores.{run-lifts, all-linked}
 use Rattle.descriptors.specs.laws.Walks.{cells-alike, walk-alike, run-alike, run-go}
 use Rattle.descriptors.specs.laws.Words.{cells-are}

@@ -2,9 +2,6 @@ use Rattle.rx_stream.specs.laws.Lists.{copied}
 use borrow.Author.Needs.{needs}
 use Rattle.rx_stream.proofs.copy.copy_part.Statement.{statement}
 use Rattle.rx_stream.proofs.copy.copy_part.Tie as tie
-use Rattle.rx_stream.proofs.copy.copy_part.Reads as reads
-use Rattle.rx_stream.proofs.copy.copy_part.Lts as lts
-use Rattle.bytes.proofs.copy.Reads as copy-reads
 
 add-end : tie.Need-add-end
 add-end c = search needs

@@ -8,28 +8,19 @@ use Rattle.descriptors.specs.Walk.{standing}
 use lib.Seq.{paste}
 use Rattle.rx_stream.specs.Receive.{over}
 use Rattle.descriptors.specs.Walk.{runData}
-use Rattle.descriptors.specs.Cells.{recordsOf, recordAt, startAt}
+use Rattle.descriptors.specs.Cells.{recordsOf, recordAt}
 use Rattle.descriptors.specs.Record.{limit, recordIn}
 use Rattle.descriptors.specs.declared.record.TransferDirection.the-variants.{In}
-use borrow.Author.Tests.{eq-eqb, ne-eqb, lt-ltb, le-ltb, le-leb, lt-leb, not-true, not-false}
 use lib.ListN.{length, take, drop}
-use lib.Dec.{eqb, leb, ltb}
+use lib.Dec.{leb}
 use borrow.Author.Needs.{needs}
 use native.Mathlib.Omega.{arith}
-use mathlib.Core.Logic.{⊎-elim}
-use mathlib.Core.List.{List, [], _++_}
-use mathlib.Core.Bool.{Bool, true, false, cond, _&&_}
-use mathlib.Core.Path.{_≡_, sym, ap, _∙_, refl}
-use Prim.Native.Nat.{ℕ, suc, _+_, _-_, _*_, _≤_, _<_}
+use mathlib.Core.List.{[], _++_}
+use mathlib.Core.Bool.{cond}
+use mathlib.Core.Path.{_≡_, ap, _∙_, refl}
+use Prim.Native.Nat.{ℕ, _+_, _-_, _≤_, _<_}
 use Rattle.rx_stream.proofs.copy.copy_run.Statement.{statement}
 use Rattle.rx_stream.proofs.copy.copy_run.Tie as tie
-use Rattle.rx_stream.proofs.copy.copy_run.Reads as reads
-use Rattle.rx_stream.proofs.copy.copy_run.Lts as lts
-use Rattle.descriptors.proofs.cells.start_of.Reads as start-of-reads
-use Rattle.rx_stream.proofs.copy.copy_part.Reads as copy-part-reads
-use Rattle.rx_stream.proofs.copy.least.Reads as least-reads
-use Rattle.rx_stream.proofs.copy.wrapped.Reads as wrapped-reads
-use Rattle.rx_stream.proofs.piece.piece_of.Reads as piece-of-reads
 
 abbrev Inv-loop : tie.InvT-loop
 Inv-loop s w src dst₀ n k at₀ offset₀ done₀ left₀ dst at offset done left =

@@ -1,9 +1,7 @@
-use borrow.Author.Tests.{eq-eqb, ne-eqb, lt-ltb, le-ltb, le-leb, lt-leb, not-true, not-false}
-use mathlib.Core.Path.{_≡_, sym, ap, _∙_, refl}
+use borrow.Author.Tests.{lt-ltb, le-ltb}
+use mathlib.Core.Path.{sym}
 use Rattle.rx_stream.proofs.copy.wrapped.Statement.{statement}
 use Rattle.rx_stream.proofs.copy.wrapped.Tie as tie
-use Rattle.rx_stream.proofs.copy.wrapped.Reads as reads
-use Rattle.rx_stream.proofs.copy.wrapped.Lts as lts
 
 returns : tie.Need-returns
 returns c = sym (rw (lt-ltb _ _ (c .if1 .taken)))

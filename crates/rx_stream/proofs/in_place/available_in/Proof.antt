@@ -7,19 +7,14 @@ use Rattle.descriptors.specs.Ring.{ringOf, sound}
 use Rattle.descriptors.specs.Cells.{recordsOf}
 use Rattle.descriptors.specs.Record.{limit, recordIn}
 use Rattle.descriptors.specs.declared.record.TransferDirection.the-variants.{In}
-use borrow.Author.Tests.{eq-eqb, ne-eqb, lt-ltb, le-ltb, le-leb, lt-leb, not-true, not-false}
+use borrow.Author.Tests.{le-leb}
 use native.Mathlib.Omega.{arith}
-use mathlib.Core.List.{List, []}
-use mathlib.Core.Bool.{Bool, true, false, cond, _&&_, _||_}
-use Prim.Native.Nat.{ℕ, suc, _+_, _-_, _*_, _≤_, _<_}
-use mathlib.Core.Path.{_≡_, sym, ap, _∙_, refl}
+use mathlib.Core.Bool.{true}
+use Prim.Native.Nat.{ℕ, _-_}
+use mathlib.Core.Path.{_≡_, sym, ap, _∙_}
 use borrow.Author.Needs.{needs}
 use Rattle.rx_stream.proofs.in_place.available_in.Statement.{statement}
 use Rattle.rx_stream.proofs.in_place.available_in.Tie as tie
-use Rattle.rx_stream.proofs.in_place.available_in.Reads as reads
-use Rattle.rx_stream.proofs.in_place.available_in.Lts as lts
-use Rattle.descriptors.proofs.ring.judge.Reads as judge-reads
-use Rattle.descriptors.proofs.walk.run_bytes.Reads as run-bytes-reads
 
 passed : (c : tie.After-enum-told) → let a = c .before .before .before .before .before .args in sound In (ringOf (a .s .now) (a .w .now) (a .h)) (a .len) ≡ true
 passed c = ready-split _ _ (c .before .before .judge .ensures) (c .enum-told .given .1)

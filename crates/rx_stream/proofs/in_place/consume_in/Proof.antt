@@ -6,18 +6,11 @@ use Rattle.descriptors.specs.declared.record.TransferDirection.the-variants.{In
 use Rattle.descriptors.specs.laws.Words.{cells-same}
 use Rattle.descriptors.specs.laws.Sound.{ready-split}
 use Rattle.descriptors.specs.Ring.{ringOf, sound}
-use native.Mathlib.Omega.{arith}
-use mathlib.Core.List.{List, []}
-use mathlib.Core.Bool.{Bool, true, false, cond, _&&_, _||_}
-use Prim.Native.Nat.{ℕ, suc, _+_, _-_, _*_, _≤_, _<_}
-use mathlib.Core.Path.{_≡_, sym, ap, _∙_, refl}
+use mathlib.Core.Bool.{true, false}
+use mathlib.Core.Path.{_≡_, ap, _∙_, refl}
 use borrow.Author.Needs.{needs}
 use Rattle.rx_stream.proofs.in_place.consume_in.Statement.{statement}
 use Rattle.rx_stream.proofs.in_place.consume_in.Tie as tie
-use Rattle.rx_stream.proofs.in_place.consume_in.Reads as reads
-use Rattle.rx_stream.proofs.in_place.consume_in.Lts as lts
-use Rattle.descriptors.proofs.ring.judge.Reads as judge-reads
-use Rattle.rx_stream.proofs.in_place.take_in.Reads as take-in-reads
 
 passed : (c : tie.After-enum-told) → let a = c .before .before .before .before .before .before .args in sound In (ringOf (a .s .now) (a .w .now) (a .h)) (a .len) ≡ true
 passed c = ready-split _ _ (c .before .before .judge .ensures) (c .enum-told .given .1)

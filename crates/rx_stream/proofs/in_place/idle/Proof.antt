@@ -1,19 +1,13 @@
 use Rattle.descriptors.specs.Cells.{recordAt}
 use Rattle.descriptors.specs.Record.{isCpu}
 use lib.Dec.{eqb}
-use borrow.Author.Tests.{eq-eqb, ne-eqb, lt-ltb, le-ltb, le-leb, lt-leb, not-true, not-false}
-use mathlib.Core.List.{List, []}
-use mathlib.Core.Bool.{Bool, true, false, cond, _&&_, _||_}
-use Prim.Native.Nat.{ℕ, suc, _+_, _-_, _*_, _≤_, _<_}
-use mathlib.Core.Path.{_≡_, sym, ap, _∙_, refl}
+use borrow.Author.Tests.{eq-eqb, ne-eqb, not-true, not-false}
+use mathlib.Core.List.{[]}
+use Prim.Native.Nat.{ℕ}
+use mathlib.Core.Path.{_≡_, sym, ap, _∙_}
 use borrow.Author.Needs.{needs}
 use Rattle.rx_stream.proofs.in_place.idle.Statement.{statement}
 use Rattle.rx_stream.proofs.in_place.idle.Tie as tie
-use Rattle.rx_stream.proofs.in_place.idle.Reads as reads
-use Rattle.rx_stream.proofs.in_place.idle.Lts as lts
-use Rattle.descriptors.proofs.cells.is_cpu.Reads as is-cpu-reads
-use Rattle.descriptors.proofs.cells.length_of.Reads as length-of-reads
-use Rattle.descriptors.proofs.cells.owner_of.Reads as owner-of-reads
 
 owned : (c : tie.After-is-cpu) → let a = c .before .before .before .before .args in isCpu (recordAt [] (a .w .now) (a .i) .owner) ≡ c .is-cpu .result
 owned c = ap isCpu (sym (c .before .owner-of .ensures)) ∙ sym (c .is-cpu .ensures)

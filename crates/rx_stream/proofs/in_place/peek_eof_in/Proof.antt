@@ -7,18 +7,13 @@ use Rattle.descriptors.specs.Ring.{ringOf, sound}
 use Rattle.descriptors.specs.Cells.{recordsOf, recordAt}
 use Rattle.descriptors.specs.Record.{recordIn}
 use Rattle.descriptors.specs.declared.record.TransferDirection.the-variants.{In}
-use native.Mathlib.Omega.{arith}
-use mathlib.Core.List.{List, []}
-use mathlib.Core.Bool.{Bool, true, false, cond, _&&_, _||_}
-use Prim.Native.Nat.{ℕ, suc, _+_, _-_, _*_, _≤_, _<_}
-use mathlib.Core.Path.{_≡_, sym, ap, _∙_, refl}
+use mathlib.Core.List.{[]}
+use mathlib.Core.Bool.{Bool, true}
+use Prim.Native.Nat.{_-_}
+use mathlib.Core.Path.{_≡_, sym, ap, _∙_}
 use borrow.Author.Needs.{needs}
 use Rattle.rx_stream.proofs.in_place.peek_eof_in.Statement.{statement}
 use Rattle.rx_stream.proofs.in_place.peek_eof_in.Tie as tie
-use Rattle.rx_stream.proofs.in_place.peek_eof_in.Reads as reads
-use Rattle.rx_stream.proofs.in_place.peek_eof_in.Lts as lts
-use Rattle.descriptors.proofs.ring.judge.Reads as judge-reads
-use Rattle.rx_stream.proofs.piece.flat_eof.Reads as flat-eof-reads
 
 passed : (c : tie.After-enum-told) → let a = c .before .before .before .before .before .args in sound In (ringOf (a .s .now) (a .w .now) (a .h)) (a .len) ≡ true
 passed c = ready-split _ _ (c .before .before .judge .ensures) (c .enum-told .given .1)

@@ -2,9 +2,6 @@ use Rattle.rx_stream.specs.Receive.{peekRefusalOf}
 use borrow.Author.Needs.{needs}
 use Rattle.rx_stream.proofs.in_place.peek_refusal_in.Statement.{statement}
 use Rattle.rx_stream.proofs.in_place.peek_refusal_in.Tie as tie
-use Rattle.rx_stream.proofs.in_place.peek_refusal_in.Reads as reads
-use Rattle.rx_stream.proofs.in_place.peek_refusal_in.Lts as lts
-use Rattle.descriptors.proofs.ring.judge.Reads as judge-reads
 
 judge-requires : tie.Need-judge-requires
 judge-requires c κs = search needs

@@ -8,20 +8,11 @@ use Rattle.descriptors.specs.laws.Sound.{ready-split}
 use Rattle.descriptors.specs.Ring.{ringOf, sound}
 use lib.ListN.{length}
 use Rattle.descriptors.specs.declared.record.TransferDirection.the-variants.{In}
-use borrow.Author.Tests.{eq-eqb, ne-eqb, lt-ltb, le-ltb, le-leb, lt-leb, not-true, not-false}
-use mathlib.Core.List.{List, []}
-use mathlib.Core.Bool.{Bool, true, false, cond, _&&_, _||_}
-use Prim.Native.Nat.{ℕ, suc, _+_, _-_, _*_, _≤_, _<_}
+use mathlib.Core.Bool.{true, false}
 use mathlib.Core.Path.{_≡_, sym, ap, _∙_, refl}
 use borrow.Author.Needs.{needs}
 use Rattle.rx_stream.proofs.in_place.pop_in.Statement.{statement}
 use Rattle.rx_stream.proofs.in_place.pop_in.Tie as tie
-use Rattle.rx_stream.proofs.in_place.pop_in.Reads as reads
-use Rattle.rx_stream.proofs.in_place.pop_in.Lts as lts
-use Rattle.descriptors.proofs.ring.judge.Reads as judge-reads
-use Rattle.rx_stream.proofs.copy.copy_run.Reads as copy-run-reads
-use Rattle.rx_stream.proofs.in_place.idle.Reads as idle-reads
-use Rattle.rx_stream.proofs.in_place.take_in.Reads as take-in-reads
 
 passed : (c : tie.After-enum-told) → let a = c .before .before .before .before .before .before .before .before .args in sound In (ringOf (a .s .now) (a .w .now) (a .h)) (length (a .buffer .now)) ≡ true
 passed c = ready-split _ _ (c .before .before .judge .ensures) (c .enum-told .given .1)

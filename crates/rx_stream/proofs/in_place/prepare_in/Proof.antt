@@ -5,18 +5,11 @@ use Rattle.descriptors.specs.declared.refusal.Done.{Done}
 use Rattle.descriptors.specs.laws.Words.{cells-same}
 use Rattle.descriptors.specs.laws.Sound.{ready-split}
 use Rattle.descriptors.specs.Ring.{ringOf, splitSound, judged}
-use native.Mathlib.Omega.{arith}
-use mathlib.Core.List.{List, []}
-use mathlib.Core.Bool.{Bool, true, false, cond, _&&_, _||_}
-use Prim.Native.Nat.{ℕ, suc, _+_, _-_, _*_, _≤_, _<_}
-use mathlib.Core.Path.{_≡_, sym, ap, _∙_, refl}
+use mathlib.Core.Bool.{true, false}
+use mathlib.Core.Path.{_≡_, ap, _∙_}
 use borrow.Author.Needs.{needs}
 use Rattle.rx_stream.proofs.in_place.prepare_in.Statement.{statement}
 use Rattle.rx_stream.proofs.in_place.prepare_in.Tie as tie
-use Rattle.rx_stream.proofs.in_place.prepare_in.Reads as reads
-use Rattle.rx_stream.proofs.in_place.prepare_in.Lts as lts
-use Rattle.descriptors.proofs.ring.judge_split.Reads as judge-split-reads
-use Rattle.descriptors.proofs.walk.link_all.Reads as link-all-reads
 
 passed : (c : tie.After-enum-told) → let a = c .before .before .before .before .before .before .args in splitSound (ringOf (a .s .now) (a .w .now) (a .h)) (a .len) ≡ true
 passed c = ready-split _ _ (c .before .before .judge-split .ensures) (c .enum-told .given .1)

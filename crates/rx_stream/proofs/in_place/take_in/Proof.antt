@@ -3,22 +3,16 @@ use Rattle.rx_stream.specs.Faces.{stepIn, takenBy}
 use Rattle.descriptors.specs.declared.walk.Moved.{Moved}
 use Rattle.descriptors.specs.declared.record.TransferDirection.the-variants.{In}
 use Rattle.descriptors.specs.laws.Walks.{walk-rest}
-use Rattle.descriptors.specs.Walk.{walk}
 use Rattle.descriptors.specs.Stores.{handCells}
 use Rattle.descriptors.specs.Cells.{recordAt}
 use Rattle.descriptors.specs.Place.{turns}
 use native.Mathlib.Omega.{arith}
-use mathlib.Core.List.{List, []}
-use Prim.Native.Nat.{ℕ, suc, _+_, _-_, _*_, _≤_, _<_}
-use mathlib.Core.Path.{_≡_, sym, ap, _∙_, refl}
+use mathlib.Core.List.{[]}
+use Prim.Native.Nat.{_≤_}
+use mathlib.Core.Path.{ap, _∙_}
 use borrow.Author.Needs.{needs}
 use Rattle.rx_stream.proofs.in_place.take_in.Statement.{statement}
 use Rattle.rx_stream.proofs.in_place.take_in.Tie as tie
-use Rattle.rx_stream.proofs.in_place.take_in.Reads as reads
-use Rattle.rx_stream.proofs.in_place.take_in.Lts as lts
-use Rattle.descriptors.proofs.walk.hand_over.Reads as hand-over-reads
-use Rattle.descriptors.proofs.walk.walk_over.Reads as walk-over-reads
-use Rattle.std.proofs.num.wrapping_add_u32.Reads as wrapping-add-u32-reads
 
 -- no more is left to go than was asked for
 rests : (c : tie.After-walk-over) → c .walk-over .result .rest ≤ c .before .before .before .args .k

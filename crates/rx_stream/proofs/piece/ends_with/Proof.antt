@@ -1,12 +1,8 @@
-use borrow.Author.Tests.{eq-eqb, ne-eqb, lt-ltb, le-ltb, le-leb, lt-leb, not-true, not-false}
-use mathlib.Core.Path.{_≡_, sym, ap, _∙_, refl}
+use borrow.Author.Tests.{not-true, not-false}
+use mathlib.Core.Path.{sym, _∙_}
 use borrow.Author.Needs.{needs}
 use Rattle.rx_stream.proofs.piece.ends_with.Statement.{statement}
 use Rattle.rx_stream.proofs.piece.ends_with.Tie as tie
-use Rattle.rx_stream.proofs.piece.ends_with.Reads as reads
-use Rattle.rx_stream.proofs.piece.ends_with.Lts as lts
-use Rattle.descriptors.proofs.cells.suc_eof_of.Reads as suc-eof-of-reads
-use Rattle.rx_stream.proofs.piece.is_short.Reads as is-short-reads
 
 is-short-requires : tie.Need-is-short-requires
 is-short-requires c κs = search needs

@@ -1,14 +1,10 @@
 use Rattle.descriptors.specs.Cells.{cell}
 use lib.Dec.{ltb}
-use mathlib.Core.Path.{_≡_, sym, ap, _∙_, refl}
-use Prim.Native.Nat.{ℕ, suc, _+_, _-_, _*_, _≤_, _<_}
+use mathlib.Core.Path.{ap, _∙_}
+use Prim.Native.Nat.{ℕ}
 use borrow.Author.Needs.{needs}
 use Rattle.rx_stream.proofs.piece.is_short.Statement.{statement}
 use Rattle.rx_stream.proofs.piece.is_short.Tie as tie
-use Rattle.rx_stream.proofs.piece.is_short.Reads as reads
-use Rattle.rx_stream.proofs.piece.is_short.Lts as lts
-use Rattle.descriptors.proofs.cells.length_of.Reads as length-of-reads
-use Rattle.descriptors.proofs.cells.size_of.Reads as size-of-reads
 
 length-of-requires : tie.Need-length-of-requires
 length-of-requires c κs = search needs

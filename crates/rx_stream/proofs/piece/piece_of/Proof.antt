@@ -1,26 +1,15 @@
-use Rattle.rx_stream.specs.declared.piece.Piece.{Piece}
 use Rattle.rx_stream.specs.laws.Flats.{grown, grown-none, grown-zero, grown-stop, grown-full, grown-short, grown-on}
-use Rattle.rx_stream.specs.Pieces.{pieceOf, nothing, longer}
+use Rattle.rx_stream.specs.Pieces.{pieceOf}
 use Rattle.descriptors.specs.Cells.{recordAt}
-use Rattle.descriptors.specs.Record.{limit, isCpu}
-use borrow.Author.Tests.{eq-eqb, ne-eqb, lt-ltb, le-ltb, le-leb, lt-leb, not-true, not-false}
-use lib.ListN.{getD, length}
-use lib.Dec.{eqb, leb, ltb}
+use Rattle.descriptors.specs.Record.{isCpu}
+use borrow.Author.Tests.{le-leb, lt-leb, not-true, not-false}
 use borrow.Author.Needs.{needs}
 use native.Mathlib.Omega.{arith}
-use mathlib.Core.Logic.{⊎-elim}
-use mathlib.Core.List.{List, []}
-use mathlib.Core.Bool.{Bool, true, false, cond, _&&_}
-use mathlib.Core.Path.{_≡_, sym, ap, _∙_, refl}
-use Prim.Native.Nat.{ℕ, suc, _+_, _-_, _*_, _≤_, _<_}
+use mathlib.Core.List.{[]}
+use mathlib.Core.Path.{_≡_, sym, ap, _∙_}
+use Prim.Native.Nat.{_+_, _-_, _*_, _≤_}
 use Rattle.rx_stream.proofs.piece.piece_of.Statement.{statement}
 use Rattle.rx_stream.proofs.piece.piece_of.Tie as tie
-use Rattle.rx_stream.proofs.piece.piece_of.Reads as reads
-use Rattle.rx_stream.proofs.piece.piece_of.Lts as lts
-use Rattle.descriptors.proofs.cells.is_cpu.Reads as is-cpu-reads
-use Rattle.descriptors.proofs.cells.owner_of.Reads as owner-of-reads
-use Rattle.rx_stream.proofs.piece.holds.Reads as holds-reads
-use Rattle.rx_stream.proofs.piece.is_short.Reads as is-short-reads
 
 abbrev Inv-loop : tie.InvT-loop
 Inv-loop w end i o want bytes₀ records₀ at₀ offset₀ bytes records at offset =

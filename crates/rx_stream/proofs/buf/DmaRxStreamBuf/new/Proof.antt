@@ -1,15 +1,12 @@
 use Rattle.rx_stream.specs.declared.buf.Built.{Built}
 use Rattle.descriptors.specs.declared.refusal.Done.{Done}
 use Rattle.descriptors.specs.declared.ring.Head.{Head}
-use mathlib.Core.List.{List, []}
-use Prim.Native.Nat.{ℕ, suc, _+_, _-_, _*_, _≤_, _<_}
-use mathlib.Core.Path.{_≡_, sym, ap, _∙_, refl}
+use mathlib.Core.List.{List}
+use Prim.Native.Nat.{ℕ}
+use mathlib.Core.Path.{_≡_, refl}
 use borrow.Author.Needs.{needs}
 use Rattle.rx_stream.proofs.buf.DmaRxStreamBuf.new.Statement.{statement}
 use Rattle.rx_stream.proofs.buf.DmaRxStreamBuf.new.Tie as tie
-use Rattle.rx_stream.proofs.buf.DmaRxStreamBuf.new.Reads as reads
-use Rattle.rx_stream.proofs.buf.DmaRxStreamBuf.new.Lts as lts
-use Rattle.descriptors.proofs.ring.new_in.Reads as new-in-reads
 
 same : {s t v w : List ℕ} {g h : Head} {d e : Done} → s ≡ t → v ≡ w → g ≡ h → d ≡ e
     → _≡_ {A = Built} record { ring = record { starts = s; cells = v; head = g }; answer = d } record { ring = record { starts = t; cells = w; head = h }; answer = e }

@@ -1,15 +1,12 @@
 use Rattle.descriptors.specs.declared.ring.Headed.{Headed}
-use Rattle.rx_stream.specs.Receive.{consumeOf, prepareOf}
+use Rattle.rx_stream.specs.Receive.{prepareOf}
 use Rattle.descriptors.specs.Ring.{ringOf, headOf}
-use mathlib.Core.List.{List, []}
-use Prim.Native.Nat.{ℕ, suc, _+_, _-_, _*_, _≤_, _<_}
-use mathlib.Core.Path.{_≡_, sym, ap, _∙_, refl}
+use mathlib.Core.List.{List}
+use Prim.Native.Nat.{ℕ}
+use mathlib.Core.Path.{ap, _∙_}
 use borrow.Author.Needs.{needs}
 use Rattle.rx_stream.proofs.buf.DmaRxStreamBuf.prepare.Statement.{statement}
 use Rattle.rx_stream.proofs.buf.DmaRxStreamBuf.prepare.Tie as tie
-use Rattle.rx_stream.proofs.buf.DmaRxStreamBuf.prepare.Reads as reads
-use Rattle.rx_stream.proofs.buf.DmaRxStreamBuf.prepare.Lts as lts
-use Rattle.rx_stream.proofs.in_place.prepare_in.Reads as prepare-in-reads
 
 slice-aggregate-prepare-in : tie.Need-slice-aggregate-prepare-in
 slice-aggregate-prepare-in c = search needs

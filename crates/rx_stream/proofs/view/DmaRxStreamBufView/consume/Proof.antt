@@ -1,15 +1,12 @@
 use Rattle.rx_stream.specs.declared.in_place.Consuming.{Consuming}
-use Rattle.rx_stream.specs.Receive.{consumeOf, prepareOf}
+use Rattle.rx_stream.specs.Receive.{consumeOf}
 use Rattle.descriptors.specs.Ring.{ringOf, headOf}
-use mathlib.Core.List.{List, []}
-use Prim.Native.Nat.{ℕ, suc, _+_, _-_, _*_, _≤_, _<_}
-use mathlib.Core.Path.{_≡_, sym, ap, _∙_, refl}
+use mathlib.Core.List.{List}
+use Prim.Native.Nat.{ℕ}
+use mathlib.Core.Path.{ap, _∙_}
 use borrow.Author.Needs.{needs}
 use Rattle.rx_stream.proofs.view.DmaRxStreamBufView.consume.Statement.{statement}
 use Rattle.rx_stream.proofs.view.DmaRxStreamBufView.consume.Tie as tie
-use Rattle.rx_stream.proofs.view.DmaRxStreamBufView.consume.Reads as reads
-use Rattle.rx_stream.proofs.view.DmaRxStreamBufView.consume.Lts as lts
-use Rattle.rx_stream.proofs.in_place.consume_in.Reads as consume-in-reads
 
 slice-aggregate-consume-in : tie.Need-slice-aggregate-consume-in
 slice-aggregate-consume-in c = search needs

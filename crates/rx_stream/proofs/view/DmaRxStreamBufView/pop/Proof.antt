@@ -2,15 +2,12 @@ use Rattle.rx_stream.specs.declared.in_place.Popping.{Popping}
 use Rattle.rx_stream.specs.Receive.{popOf}
 use Rattle.descriptors.specs.Ring.{ringOf, headOf}
 use lib.ListN.{length}
-use mathlib.Core.List.{List, []}
-use Prim.Native.Nat.{ℕ, suc, _+_, _-_, _*_, _≤_, _<_}
-use mathlib.Core.Path.{_≡_, sym, ap, _∙_, refl}
+use mathlib.Core.List.{List}
+use Prim.Native.Nat.{ℕ}
+use mathlib.Core.Path.{ap, _∙_}
 use borrow.Author.Needs.{needs}
 use Rattle.rx_stream.proofs.view.DmaRxStreamBufView.pop.Statement.{statement}
 use Rattle.rx_stream.proofs.view.DmaRxStreamBufView.pop.Tie as tie
-use Rattle.rx_stream.proofs.view.DmaRxStreamBufView.pop.Reads as reads
-use Rattle.rx_stream.proofs.view.DmaRxStreamBufView.pop.Lts as lts
-use Rattle.rx_stream.proofs.in_place.pop_in.Reads as pop-in-reads
 
 slice-aggregate-pop-in : tie.Need-slice-aggregate-pop-in
 slice-aggregate-pop-in c = search needs

@@ -1,3 +1,4 @@
+use Rattle.tx_stream.specs.Transmit.{prefillCommitOf}
 use Rattle.tx_stream.specs.laws.Values.{pushed-by, commit-keeps}
 use Rattle.tx_stream.specs.Values.{bufRing}
 use lib.ListN.{getD, length}
@@ -28,7 +29,7 @@ returns : tie.Need-returns
 returns c =
     let m = c .before in
     let a = m .before .before .before .before .before .before .args in
-    pushed-by (a .self) (m .prefill-commit-in .result) _ (commit-keeps (bufRing (a .self)) (a .len) (a .k)) (m .prefill-commit-in .ensures)
+    pushed-by (a .self) (m .prefill-commit-in .result) (prefillCommitOf (bufRing (a .self)) (a .len) (a .k)) (commit-keeps (bufRing (a .self)) (a .len) (a .k)) (m .prefill-commit-in .ensures)
 
 pub commit-spec : {M : Type 1} → statement M
 commit-spec =

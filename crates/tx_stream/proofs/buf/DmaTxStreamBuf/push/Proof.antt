@@ -1,3 +1,4 @@
+use Rattle.tx_stream.specs.Transmit.{prefillOf}
 use Rattle.tx_stream.specs.laws.Values.{pushed-by, prefill-keeps}
 use Rattle.tx_stream.specs.Values.{bufRing}
 use lib.ListN.{getD, length}
@@ -31,7 +32,7 @@ returns : tie.Need-returns
 returns c =
     let m = c .before .before .before in
     let a = m .before .before .before .before .before .before .before .before .before .args in
-    (pushed-by (a .self) (m .prefill-in .result) _ (prefill-keeps (bufRing (a .self)) (length (a .buffer .now)) (length (a .«data» .now))) (m .prefill-in .ensures .0), m .prefill-in .ensures .1)
+    (pushed-by (a .self) (m .prefill-in .result) (prefillOf (bufRing (a .self)) (length (a .buffer .now)) (length (a .«data» .now))) (prefill-keeps (bufRing (a .self)) (length (a .buffer .now)) (length (a .«data» .now))) (m .prefill-in .ensures .0), m .prefill-in .ensures .1)
 
 pub push-spec : {M : Type 1} → statement M
 push-spec =

@@ -1,3 +1,5 @@
+use Rattle.tx_stream.specs.Values.{viewRing}
+use Rattle.tx_stream.specs.Transmit.{commitOf}
 use Rattle.tx_stream.specs.laws.Values.{advanced-by}
 use lib.ListN.{getD, length}
 use lib.Dec.{eqb, leb, ltb}
@@ -27,7 +29,7 @@ returns : tie.Need-returns
 returns c =
     let m = c .before .before in
     let a = m .before .before .before .before .before .before .args in
-    advanced-by (a .self) _ (m .commit-in .result) _ (m .commit-in .ensures .0) (m .commit-in .ensures .1)
+    advanced-by (a .self) _ (m .commit-in .result) (commitOf (viewRing (a .self)) (a .len) (a .k)) (m .commit-in .ensures .0) (m .commit-in .ensures .1)
 
 pub commit-spec : {M : Type 1} → statement M
 commit-spec =

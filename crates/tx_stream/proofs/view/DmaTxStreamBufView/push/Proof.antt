@@ -1,3 +1,5 @@
+use Rattle.tx_stream.specs.Values.{viewRing}
+use Rattle.tx_stream.specs.Transmit.{pushOf}
 use Rattle.tx_stream.specs.laws.Values.{advanced-by}
 use lib.ListN.{getD, length}
 use lib.Dec.{eqb, leb, ltb}
@@ -30,7 +32,7 @@ returns : tie.Need-returns
 returns c =
     let m = c .before .before .before .before in
     let a = m .before .before .before .before .before .before .before .before .before .args in
-    (advanced-by (a .self) _ (m .push-in .result) _ (m .push-in .ensures .0) (m .push-in .ensures .1 .0), m .push-in .ensures .1 .1)
+    (advanced-by (a .self) _ (m .push-in .result) (pushOf (viewRing (a .self)) (length (a .buffer .now)) (length (a .«data» .now))) (m .push-in .ensures .0) (m .push-in .ensures .1 .0), m .push-in .ensures .1 .1)
 
 pub push-spec : {M : Type 1} → statement M
 push-spec =

@@ -1,0 +1,61 @@
+// A consume from a lent cursor: the ring is by value, and its own cursor is not read.
+ghost use mathlib.Core.Path.{_≡_};
+ghost use Rattle.lent.specs.Cursor.{standingAt, cursorOf, consumeBy};
+use descriptors::ring::Head;
+use rx_stream::view::Consumed;
+use rx_stream::view::DmaRxStreamBufView;
+
+// The receive cursor by itself: a record's number and an offset in it.
+pub struct Cursor {
+    pub record: usize,
+    pub offset: usize,
+}
+
+// A consume by the ring with its cursor at (i, o).
+fn consume_from(i: usize, o: usize, ring: DmaRxStreamBufView, len: usize, k: usize) -> Consumed
+    ensures { λ r. ⌜ r ≡ consumeBy (standingAt ring (record { «record» = i; offset = o })) len k ⌝ }
+{
+    let starts = ring.starts;
+    let cells = ring.cells;
+    let h = ring.head;
+    let head = Head {
+        count: h.count,
+        descriptor_idx: i,
+        descriptor_offset: o,
+        tally: h.tally,
+        pre_filled: h.pre_filled,
+    };
+    let standing = DmaRxStreamBufView {
+        starts,
+        cells,
+        head,
+    };
+    standing.consume(len, k)
+}
+
+// Takes k bytes from the lent cursor on, and leaves the cursor where the walk ends: after a refusal, where it was.
+pub fn consume_at(c: &mut Cursor, ring: DmaRxStreamBufView, len: usize, k: usize) -> Consumed
+    ensures { λ r. ⌜ (r ≡ consumeBy (standingAt ring (now (c .entry))) len k) × (now (c .exit) ≡ cursorOf (r .ring .head)) ⌝ }
+{
+    let record = c.record;
+    let offset = c.offset;
+    let done = consume_from(record, offset, ring, len, k);
+    c.record = done.ring.head.descriptor_idx;
+    c.offset = done.ring.head.descriptor_offset;
+    done
+}
+
+// What a consume from a cursor leaves: the cursor and the answer.
+pub struct Stepped {
+    pub cursor: Cursor,
+    pub done: Consumed,
+}
+
+// A consume from a cursor by value: it is lent for the call. Whoever calls this needs no walk.
+pub fn consume_with(at: Cursor, ring: DmaRxStreamBufView, len: usize, k: usize) -> Stepped
+    ensures { λ r. ⌜ (r .done ≡ consumeBy (standingAt ring at) len k) × (r .cursor ≡ cursorOf (r .done .ring .head)) ⌝ }
+{
+    let mut cursor = at;
+    let done = consume_at(&mut cursor, ring, len, k);
+    Stepped { cursor, done }
+}

@@ -1,0 +1,64 @@
+-- The rule that steps from record to record, and the list of the records in ring order.
+use Prim.Native.Nat.{ℕ, zero, suc, _+_, _-_, _≤_, _<_}
+use mathlib.Core.Path.{_≡_, refl, sym, _∙_, ap}
+use mathlib.Core.Bool.{Bool, true, false, cond}
+use mathlib.Core.List.{List, [], _∷_}
+use native.Mathlib.Omega.{arith}
+use borrow.Author.Tests.{ltb-true, ltb-false}
+use lib.Dec.{ltb}
+use lib.ListN.{length, take, drop, length-append, length-take, length-drop, List·getD-append}
+use lib.Seq.{drop-cons, drop-length, getD-drop, getD-take, getD-append-add, length-take-le}
+use Rattle.descriptors.specs.Record.{blank, recordIn, isCpu}
+use Rattle.descriptors.specs.Place.{after}
+use Rattle.descriptors.specs.Walk.{runBytes}
+use Rattle.descriptors.specs.declared.record.DmaDescriptor.{DmaDescriptor}
+use Rattle.descriptors.specs.declared.record.TransferDirection.the-variants.{In}
+use Rattle.ring_order.specs.Places.{place, place-zero, after-place}
+use Rattle.rx_meaning.specs.Words.{total, turned, cpuRun}
+
+turned-length : (ds : List DmaDescriptor) (n i : ℕ) → n ≤ length ds → i < n → length (turned ds n i) ≡ n
+turned-length ds n i l h =
+    let w : length (take n ds) ≡ n = length-take-le n ds l in
+    rw (length-append, length-drop, length-take i (take n ds), w) (omega arith)
+
+turned-at : (ds : List DmaDescriptor) (n i j : ℕ) → n ≤ length ds → i < n → j < n → recordIn (turned ds n i) j ≡ recordIn ds (place n i j)
+unfolding place
+turned-at ds n i j l hi hj = go (ltb (i + j) n) refl
+  where
+    w : length (take n ds) ≡ n
+    w = length-take-le n ds l
+
+    ld : length (drop i (take n ds)) ≡ n - i
+    ld = length-drop i (take n ds) ∙ ap (λ (m : ℕ). m - i) w
+
+    go : (b : Bool) → ltb (i + j) n ≡ b → recordIn (turned ds n i) j ≡ recordIn ds (cond b (i + j) (i + j - n))
+    go true e =
+        List·getD-append (drop i (take n ds)) (take i (take n ds)) blank j (omega (arith, ld, ltb-true (i + j) n e))
+        ∙ getD-drop i (take n ds) j blank
+        ∙ getD-take n ds (i + j) blank (ltb-true (i + j) n e)
+    go false e =
+        let m : n ≤ i + j = ltb-false (i + j) n e in
+        let z : j ≡ length (drop i (take n ds)) + (i + j - n) = omega (arith, ld) in
+        ap (λ (m : ℕ). recordIn (turned ds n i) m) z
+        ∙ getD-append-add (drop i (take n ds)) (take i (take n ds)) (i + j - n) blank
+        ∙ getD-take i (take n ds) (i + j - n) blank (omega arith)
+        ∙ getD-take n ds (i + j - n) blank (omega arith)
+
+module _ (ds : List DmaDescriptor) (n i : ℕ) (l : n ≤ length ds) (hi : i < n) where
+  from : (k j : ℕ) → j + k ≡ n → runBytes In (recordIn ds) n k (place n i j) ≡ total (cpuRun (drop j (turned ds n i)))
+  unfolding runBytes
+  from zero j e =
+      let z : j ≡ length (turned ds n i) = omega (arith, turned-length ds n i l hi) in
+      rw (z, drop-length (turned ds n i)) refl
+  from (suc k) j e =
+      rw (drop-cons (turned ds n i) j blank (omega (arith, turned-length ds n i l hi)), turned-at ds n i j l hi (omega arith))
+      (go (isCpu (recordIn ds (place n i j) .owner)) (rw (after-place n i j hi (omega arith)) (from k (suc j) (omega arith))))
+    where
+      go : (b : Bool) → runBytes In (recordIn ds) n k (after n (place n i j)) ≡ total (cpuRun (drop (suc j) (turned ds n i)))
+          → cond b (recordIn ds (place n i j) .length + runBytes In (recordIn ds) n k (after n (place n i j))) 0
+          ≡ total (cond b (recordIn ds (place n i j) ∷ cpuRun (drop (suc j) (turned ds n i))) [])
+      go true h = rw h refl
+      go false h = refl
+
+  pub in-ring-order : runBytes In (recordIn ds) n n i ≡ total (cpuRun (turned ds n i))
+  in-ring-order = ap (runBytes In (recordIn ds) n n) (sym (place-zero n i hi)) ∙ from n 0 (omega arith)

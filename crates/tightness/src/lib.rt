@@ -1,0 +1,1 @@
+// What ties every public call down: specs only.
