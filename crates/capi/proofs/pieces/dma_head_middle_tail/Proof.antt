@@ -1,0 +1,69 @@
+use Rattle.psram.specs.Cut.{cutOf}
+use Rattle.capi.specs.laws.Calls.{said-not, said-ready}
+use Rattle.capi.specs.Pieces.{pieceReady, cutSaid}
+use Rattle.psram.specs.declared.chip.Chip.{Chip}
+use borrow.Author.Tests.{eq-eqb, ne-eqb, lt-ltb, le-ltb, le-leb, lt-leb, not-true, not-false}
+use mathlib.Core.Path.{_≡_, sym, ap, _∙_, refl}
+use borrow.Author.Needs.{needs}
+use Rattle.capi.proofs.pieces.dma_head_middle_tail.Statement.{statement}
+use Rattle.capi.proofs.pieces.dma_head_middle_tail.Tie as tie
+use Rattle.capi.proofs.pieces.dma_head_middle_tail.Reads as reads
+use Rattle.capi.proofs.pieces.dma_head_middle_tail.Lts as lts
+use Rattle.capi.proofs.answer.put.Reads as put-reads
+use Rattle.capi.proofs.pieces.chip_of.Reads as chip-of-reads
+use Rattle.capi.proofs.pieces.piece_ready.Reads as piece-ready-reads
+use Rattle.capi.proofs.pieces.said_cut.Reads as said-cut-reads
+use Rattle.psram.proofs.cut.cut.Reads as cut-reads
+
+piece-ready-requires : tie.Need-piece-ready-requires
+piece-ready-requires c κs = search needs
+
+same-length : tie.Need-same-length
+same-length c = search needs
+
+returns : tie.Need-returns
+returns c =
+    let n = sym (c .before .piece-ready .ensures) ∙ not-true _ (c .if1 .taken) in
+    said-not (pieceReady _ _) _ _ n
+
+chip-of-requires : tie.Need-chip-of-requires
+chip-of-requires c κs = search needs
+
+cut-requires : tie.Need-cut-requires
+cut-requires c κs = search needs
+
+said-cut-requires : tie.Need-said-cut-requires
+said-cut-requires c κs = search needs
+
+put-requires : tie.Need-put-requires
+put-requires c κs = search needs
+
+same-length-2 : tie.Need-same-length-2
+same-length-2 c = search needs
+
+returns-2 : tie.Need-returns-2
+returns-2 c =
+    let p = c .before .before in
+    let q = p .before in
+    let m = q .before .before in
+    let h = m .before in
+    let e = h .before in
+    let r = e .before in
+    let t = r .before .before .before in
+    let a = t .args in
+    let y = sym (r .piece-ready .ensures) ∙ not-false _ (e .if1 .left) in
+    said-ready (pieceReady (a .answer .now) (a .chip)) (a .answer .now) _ _ _ _ y (q .said-cut .ensures ∙ ap cutSaid (m .cut .ensures ∙ ap (λ (k : Chip). cutOf k (a .address) (a .len)) (h .chip-of .ensures))) (p .put .ensures .0) (p .put .ensures .1)
+
+pub dma-head-middle-tail-spec : {M : Type 1} → statement M
+dma-head-middle-tail-spec =
+    tie.close
+    (tie.spec
+    piece-ready-requires
+    same-length
+    returns
+    chip-of-requires
+    cut-requires
+    said-cut-requires
+    put-requires
+    same-length-2
+    returns-2)

@@ -1,0 +1,51 @@
+use Rattle.capi.specs.Parts.{untilEofSaid}
+use Rattle.capi.specs.laws.Lent.{said-lent}
+use Rattle.capi.specs.Answer.{hasRoom, countedSaid}
+use mathlib.Core.Bool.{Bool, true, false}
+use Rattle.descriptors.specs.Ring.{Ring}
+use mathlib.Core.Path.{_≡_, sym, ap, _∙_, refl}
+use borrow.Author.Needs.{needs}
+use Rattle.capi.proofs.receive.dma_rx_peek_until_eof.Statement.{statement}
+use Rattle.capi.proofs.receive.dma_rx_peek_until_eof.Tie as tie
+use Rattle.capi.proofs.receive.dma_rx_peek_until_eof.Reads as reads
+use Rattle.capi.proofs.receive.dma_rx_peek_until_eof.Lts as lts
+use Rattle.capi.proofs.answer.has_room.Reads as has-room-reads
+use Rattle.capi.proofs.answer.put.Reads as put-reads
+use Rattle.capi.proofs.flat.until_eof.Reads as until-eof-reads
+use Rattle.capi.proofs.words.head_of.Reads as head-of-reads
+
+has-room-requires : tie.Need-has-room-requires
+has-room-requires c κs = search needs
+
+head-of-requires : tie.Need-head-of-requires
+head-of-requires c κs = search needs
+
+until-eof-requires : tie.Need-until-eof-requires
+until-eof-requires c κs = search needs
+
+put-requires : tie.Need-put-requires
+put-requires c κs = search needs
+
+same-length : tie.Need-same-length
+same-length c = search needs
+
+returns : tie.Need-returns
+returns c =
+    let p = c .before .before in
+    let m = p .before .before in
+    let h = m .before in
+    let r = h .before in
+    let t = r .before .before .before .before .before .before in
+    let a = t .args in
+    said-lent (a .starts .now) (a .cells .now) (a .head .now) (hasRoom (a .answer .now)) (r .has-room .result) (h .head-of .result) (r .has-room .ensures) (h .head-of .ensures) (λ (x : Ring). untilEofSaid x (a .len)) (a .answer .now) _ _ _ (m .until-eof .ensures) (p .put .ensures .0) (p .put .ensures .1)
+
+pub dma-rx-peek-until-eof-spec : {M : Type 1} → statement M
+dma-rx-peek-until-eof-spec =
+    tie.close
+    (tie.spec
+    has-room-requires
+    head-of-requires
+    until-eof-requires
+    put-requires
+    same-length
+    returns)
