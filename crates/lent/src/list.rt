@@ -4,9 +4,7 @@ ghost use Prim.Native.Nat.{_+_, _/_, _%_, _≤_, _<_};
 ghost use Rattle.descriptors.specs.Split.{splitOf, sizeOf, laid};
 ghost use Rattle.descriptors.specs.Record.{limit, most, withBuffer, withSize, withLength};
 ghost use Rattle.descriptors.specs.Ring.{splitDone};
-ghost use mathlib.Core.List.{_++_};
-ghost use lib.ListN.{take, drop};
-ghost use Rattle.lent.specs.List.{newOver, newWith, room};
+ghost use Rattle.lent.specs.List.{newOver, newFirst, newWith, room};
 use descriptors::record::DmaDescriptor;
 use descriptors::record::LIMIT;
 use descriptors::record::TransferDirection;
@@ -105,7 +103,7 @@ pub struct Laid {
 // `new` over the first n of some records by value: they are lent for the call.
 fn new_first(dir: TransferDirection, ds: Records, n: usize, len: usize) -> Laid
     requires { ⌜ n ≤ room ⌝ }
-    ensures { λ r. ⌜ (r .answer ≡ newOver dir (take n (ds .list)) len .answer) × (r .list ≡ newOver dir (take n (ds .list)) len .ring .descriptors ++ drop n (ds .list)) ⌝ }
+    ensures { λ r. ⌜ r ≡ newFirst dir (ds .list) n len ⌝ }
 {
     let mut list = ds.list;
     let answer = new_over(dir, &mut list[..n], len);

@@ -1,5 +1,4 @@
 // `new` over a lent list of records, and by value over words that show the same records.
-ghost use Prim.Native.Nat.{_≤_};
 use crate::same;
 use descriptors::cells;
 use descriptors::cells::CELLS;
@@ -74,9 +73,7 @@ fn outcome_of(list: [DmaDescriptor; ROOM], refused: u8) -> Outcome {
     }
 }
 
-fn over_list(dir: TransferDirection, n: usize, len: usize) -> Outcome
-    requires { ⌜ n ≤ 65 ⌝ }
-{
+fn over_list(dir: TransferDirection, n: usize, len: usize) -> Outcome {
     let ds = lent_records();
     let laid = lent::list::new_with(dir, ds, n, len);
     let list = laid.list;
@@ -155,9 +152,6 @@ fn same_outcome(a: Outcome, b: Outcome) -> bool {
 
 // n records and the first len bytes, in both directions.
 fn run_case(name: &[u8], n: usize, bytes: &[u8], len: usize) {
-    if ROOM < n {
-        return;
-    }
     if bytes.len() < len {
         return;
     }
@@ -165,9 +159,7 @@ fn run_case(name: &[u8], n: usize, bytes: &[u8], len: usize) {
     run_way(b" transmit", name, TransferDirection::Out, n, &bytes[..len]);
 }
 
-fn run_way(way: &[u8], name: &[u8], dir: TransferDirection, n: usize, buffer: &[u8])
-    requires { ⌜ n ≤ 65 ⌝ }
-{
+fn run_way(way: &[u8], name: &[u8], dir: TransferDirection, n: usize, buffer: &[u8]) {
     let len = buffer.len();
     let lent = over_list(dir, n, len);
     let value = by_value(dir, n, buffer);
@@ -195,5 +187,6 @@ pub fn run() {
     run_case(b"too few", 3, &bytes, 14);
     run_case(b"the most", 64, &bytes, 710);
     run_case(b"too many", 65, &bytes, 700);
+    run_case(b"more than lent", 66, &bytes, 700);
     run_case(b"chunk 0", 64, &bytes, 63);
 }

@@ -145,7 +145,7 @@ module _ {M : Type 1} (𝓤 : URA M) (H : Heap 𝓤) (A : Atoms 𝓤) (W : Given
       → ent 𝓤 (emp 𝓤) (Post (laid (record { list = zs ++ others; answer = a })))
   exits zs a g h e =
       qed W [] ∵ suffices ! _ (ends-at 𝓤 H A f.ended stayed (f.clauses 𝓤 H A at-mem run) W ((tt, tt, tt, x, at), tt) (laid (record { list = zs ++ others; answer = a })) (record { list = zs ++ others; answer = a }) (tt, (tt, (tt, (tt, tt)))) (tt, (tt, (tt, (tt, tt))))) $
-      says ! (e .0, ap (λ (l : List DmaDescriptor). l ++ others) (e .1)) $
+      says ! (λ i. record { list = e .1 i ++ others; answer = e .0 i }) $
       owned ! La.the-row (Is La.the-row) (LL.makes La.the-type La′.the-plain 𝓤 H A) (record { list = zs ++ others; answer = a }) _ (made (zs ++ others) a g h) $
       nothing ! $ owned ! usize (Is usize) (uint-makes 𝓤 H A W w64) len _ (refl, len-fits) $ fjoin ! $ owned ! usize (Is usize) (uint-makes 𝓤 H A W w64) n _ (refl, n-fits) $ fjoin ! $
       owned ! Re.the-row (Is Re.the-row) (LL.makes Re.the-type Re′.the-plain 𝓤 H A) d _ d-is $ fjoin ! $ owned ! Di.the-row (Is Di.the-row) (EL.makes Di.the-type Di′.the-plain 𝓤 H A) dir _ dir-is $ fjoin ! $ nothing ! $ done !

@@ -11,15 +11,12 @@ use Rattle.lent_main.proofs.list.run_way.Reads as run-way-reads
 returns : tie.Need-returns
 returns c = search needs
 
-returns-2 : tie.Need-returns-2
-returns-2 c = search needs
-
 slice-aggregate-run-way : tie.Need-slice-aggregate-run-way
 slice-aggregate-run-way c = search needs
 
 slice-aggregate-run-way-2 : tie.Need-slice-aggregate-run-way-2
 slice-aggregate-run-way-2 c =
-    let a = c .before .before .before .before .before .before .args in
+    let a = c .before .before .before .before .before .args in
     sym (length-take-le (a .len) (a .bytes .now) (omega arith))
 
 run-way-requires : tie.Need-run-way-requires
@@ -30,25 +27,24 @@ slice-aggregate-run-way-3 c = search needs
 
 slice-aggregate-run-way-4 : tie.Need-slice-aggregate-run-way-4
 slice-aggregate-run-way-4 c =
-    let a = c .before .before .before .before .before .before .before .before .before .args in
+    let a = c .before .before .before .before .before .before .before .before .args in
     sym (length-take-le (a .len) (a .bytes .now) (omega arith))
 
 run-way-requires-2 : tie.Need-run-way-requires-2
 run-way-requires-2 c κs = search needs
 
-returns-3 : tie.Need-returns-3
-returns-3 c = search needs
+returns-2 : tie.Need-returns-2
+returns-2 c = search needs
 
 pub run-case-spec : {M : Type 1} → statement M
 run-case-spec =
     tie.close
     (tie.spec
     returns
-    returns-2
     slice-aggregate-run-way
     slice-aggregate-run-way-2
     run-way-requires
     slice-aggregate-run-way-3
     slice-aggregate-run-way-4
     run-way-requires-2
-    returns-3)
+    returns-2)
