@@ -21,6 +21,8 @@ pub fn run(runner: &mut Runner, _: Size, rng: &Rng) {
         ("an owner of 2", |_, cells| cells[OWNER + 1] = 2),
         ("an EOF mark of 2", |_, cells| cells[EOF + 3] = 2),
         ("an owner of 65535", |_, cells| cells[OWNER] = u16::MAX),
+        ("an owner of 2 beyond the ring's records", |_, cells| cells[OWNER + LIMIT - 1] = 2),
+        ("an EOF mark of 2 beyond the ring's records", |_, cells| cells[EOF + N] = 2),
         ("a next of 65535", |_, cells| cells[2 * LIMIT + 2] = u16::MAX),
         ("a tally of 2^32", |head, _| head[3] = 1 << 32),
         ("a count of 2^63", |head, _| head[0] = 1 << 63),
@@ -45,7 +47,7 @@ pub fn run(runner: &mut Runner, _: Size, rng: &Rng) {
     short_slices(runner, rng);
 }
 
-/// Row D, all CPU-owned and full, with anything in the words beyond its four records.
+/// Row D, all CPU-owned and full, with any records in the words beyond its own four.
 fn words(direction: Direction, rng: &Rng) -> ([u64; 5], DescriptorList) {
     let state = crate::states::ring(direction, N, LEN);
     let mut list = DescriptorList::new(N);
@@ -53,7 +55,9 @@ fn words(direction: Direction, rng: &Rng) -> ([u64; 5], DescriptorList) {
     for i in 0..LIMIT {
         starts[i] = state.records.get(i).map_or(rng.next() as u32, |record| record.start as u32);
         for block in 0..5 {
-            cells[block * LIMIT + i] = rng.next() as u16;
+            // A mark is 0 or 1 in every record that the words hold.
+            let word = rng.next() as u16;
+            cells[block * LIMIT + i] = if block < 3 { word } else { word & 1 };
         }
         if let Some(record) = state.records.get(i) {
             (cells[i], cells[LIMIT + i], cells[2 * LIMIT + i]) = (record.size as u16, record.size as u16, 0);
