@@ -3,6 +3,7 @@ use Prim.Native.Nat.{ℕ, _+_, _%_, max}
 use mathlib.Core.Bool.{Bool, cond, _&&_, _||_}
 use lib.Dec.{eqb, leb, ltb}
 use lib.Count.{ones}
+use Rattle.descriptors.specs.Record.{top}
 use Rattle.descriptors.specs.declared.record.TransferDirection.{TransferDirection}
 use Rattle.descriptors.specs.declared.record.TransferDirection.the-variants.{In, Out}
 use Rattle.descriptors.specs.declared.refusal.DmaAlignmentError.the-variants.{Address, Size}
@@ -13,9 +14,6 @@ use Rattle.burst.specs.declared.Region.{Region}
 
 abbrev pub widest : ℕ
 widest = 64
-
-abbrev pub top : ℕ
-top = 4294967296
 
 -- "An alignment is good when exactly one of its bits is set and it is at most 64."
 unfoldable pub isGood : ℕ → Bool

@@ -2,6 +2,7 @@
 ghost use mathlib.Core.Path.{_≡_};
 ghost use Prim.Native.Nat.{_<_};
 ghost use Rattle.burst.specs.Burst.{isGood, holds, supported, alignmentAt, alignedOf, compatibleOf};
+use descriptors::record::TOP;
 use descriptors::record::TransferDirection;
 use descriptors::refusal::DmaAlignmentError;
 use descriptors::refusal::DmaBufError;
@@ -9,9 +10,6 @@ use descriptors::refusal::Done;
 
 // The largest alignment.
 pub const WIDEST: u32 = 64;
-
-// One past the last address.
-pub const TOP: u64 = 4294967296;
 
 // A memory region, half-open: an end wants more than 32 bits.
 pub struct Region {
@@ -41,7 +39,7 @@ fn holds(region: Region, start: u64, end: u64) -> bool
 fn is_supported(start: u64, end: u64, internal: Region, external: Region) -> bool
     ensures { λ r. ⌜ r ≡ supported start end internal external ⌝ }
 {
-    if TOP < end {
+    if (TOP as u64) < end {
         return false;
     }
     if holds(internal, start, end) {

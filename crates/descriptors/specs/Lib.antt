@@ -1,6 +1,7 @@
 pub mod Refusal
 pub mod Record
 pub mod Place
+pub mod Part
 pub mod Cells
 pub mod Split
 pub mod Stores

@@ -22,6 +22,10 @@ limit = 64
 abbrev pub most : ℕ
 most = 4095
 
+-- one past the last address
+abbrev pub top : ℕ
+top = 4294967296
+
 -- what `getD` answers past the end of a list of records: no rule reads it
 abbrev pub blank : DmaDescriptor
 blank = record { buffer = 0; size = 0; length = 0; «suc_eof» = false; owner = Cpu; next = Nothing }

@@ -1,6 +1,5 @@
 -- What the counter clerk says no to.
 use Prim.Native.Nat.{ℕ}
-use Rattle.descriptors.specs.declared.refusal.DmaAlignmentError.{DmaAlignmentError}
 use Rattle.descriptors.specs.declared.refusal.DmaAlignmentError.the-variants.{Address, Size}
 use Rattle.descriptors.specs.declared.refusal.DmaBufError.{DmaBufError}
 use Rattle.descriptors.specs.declared.refusal.DmaBufError.the-variants.{InsufficientDescriptors, InvalidChunkSize, UnevenSplit, TooManyDescriptors, BadState, BadStep, Stopped, TooMuch, UnsupportedMemoryRegion, InvalidAlignment, BadAlignment}

@@ -1,6 +1,6 @@
 -- "A ring has n records .., one lent byte buffer, and a cursor (record, offset). The ring also keeps a 32-bit tally" and a prefilled
 -- count. The buffer stands beside it: a rule asks for its length, or for its bytes.
-use Prim.Native.Nat.{ℕ, zero, suc, _+_, _-_, _%_, _^_}
+use Prim.Native.Nat.{ℕ, _+_, _-_, _%_, _^_}
 use mathlib.Core.Path.{_≡_}
 use mathlib.Core.Bool.{Bool, true, false, cond, _&&_, _||_}
 use mathlib.Core.List.{List}
@@ -14,7 +14,6 @@ use Rattle.descriptors.specs.declared.record.Next.the-variants.{Nothing,
 use Rattle.descriptors.specs.declared.record.DmaDescriptor.{DmaDescriptor}
 use Rattle.descriptors.specs.declared.record.TransferDirection.{TransferDirection}
 use Rattle.descriptors.specs.declared.record.TransferDirection.the-variants.{In, Out}
-use Rattle.descriptors.specs.declared.refusal.DmaBufError.{DmaBufError}
 use Rattle.descriptors.specs.declared.refusal.DmaBufError.the-variants.{BadState}
 use Rattle.descriptors.specs.declared.refusal.Done.{Done}
 use Rattle.descriptors.specs.declared.refusal.Done.the-variants.{Ready, Refused}
@@ -114,10 +113,11 @@ refused r a = record { ring = r; answer = a }
 abbrev pub fresh : List DmaDescriptor → ℕ → Ring
 fresh ds n = record { descriptors = ds; count = n; idx = 0; offset = 0; tally = 0; prefilled = 0 }
 
--- "`new` gives cursor (0,0), tally 0 and prefilled count 0." Words that hold no records are refused last, with 5.
+-- "`new` gives cursor (0,0), tally 0 and prefilled count 0." Fewer than n records, as where the words hold none, are refused
+-- last, with 5.
 abbrev pub newBy : TransferDirection → List DmaDescriptor → ℕ → ℕ → Split → Outcome Done
 newBy dir ds n len (split.Parts chunk rest) =
-    cond (eqb (length ds) 0) (refused (fresh ds n) (Refused BadState)) record { ring = fresh (laidOut dir n len ds) n; answer = Ready }
+    cond (ltb (length ds) n) (refused (fresh ds n) (Refused BadState)) record { ring = fresh (laidOut dir n len ds) n; answer = Ready }
 newBy dir ds n len (split.Refused e) = refused (fresh ds n) (Refused e)
 
 unfoldable pub newOf : TransferDirection → List DmaDescriptor → ℕ → ℕ → Outcome Done

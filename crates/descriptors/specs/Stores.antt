@@ -1,9 +1,10 @@
 -- The transitions of records, store by store, on the cells: in the order in which the Rust does them.
-use Prim.Native.Nat.{ℕ, _+_, _/_}
-use mathlib.Core.Bool.{true, false}
+use Prim.Native.Nat.{ℕ, _/_}
+use mathlib.Core.Bool.{true, false, cond}
 use mathlib.Core.List.{List}
-use Rattle.descriptors.specs.Record.{following, upTo}
-use Rattle.descriptors.specs.Place.{before}
+use lib.Dec.{leb}
+use Rattle.descriptors.specs.Record.{limit, following, upTo}
+use Rattle.descriptors.specs.Place.{before, turns}
 use Rattle.descriptors.specs.Cells.{cell, putStart, putSize, putOwner, putEof, putLength, putNext}
 use Rattle.descriptors.specs.Split.{startOf, sizeOf}
 use Rattle.descriptors.specs.declared.record.Owner.the-variants.{Dma}
@@ -24,6 +25,13 @@ handCells dir n i ws = putNext (handedCells dir i ws) (before n i) (At i)
 unfoldable pub linkCells : TransferDirection → ℕ → ℕ → List ℕ → List ℕ
 linkCells In n i ws = putLength (putEof (putOwner (putNext ws i (following n i)) i Dma) i false) i 0
 linkCells Out n i ws = putOwner (putNext ws i (following n i)) i Dma
+
+-- all the records that a call hands over or links; more than a ring can have are left alone
+unfoldable pub handAll : TransferDirection → ℕ → ℕ → ℕ → List ℕ → List ℕ
+handAll dir n g i ws = cond (leb g limit) (turns (handCells dir n) n g i ws) ws
+
+unfoldable pub linkAll : TransferDirection → ℕ → List ℕ → List ℕ
+linkAll dir n ws = cond (leb n limit) (upTo (linkCells dir n) n ws) ws
 
 -- a record's part of the split
 unfoldable pub layStart : ℕ → ℕ → ℕ → List ℕ → List ℕ

@@ -2,11 +2,11 @@
 -- handed to the device on the way. Both directions: on receive a record counts for its length and is given back, on transmit it
 -- counts for its size and is queued.
 use Prim.Native.Nat.{ℕ, zero, suc, _+_, _-_, _%_, _^_}
-use mathlib.Core.Bool.{Bool, true, false, cond}
-use mathlib.Core.List.{List, [], _∷_, _++_}
-use lib.Dec.{ltb}
+use mathlib.Core.Bool.{cond}
+use mathlib.Core.List.{List, [], _++_}
+use lib.Dec.{leb, ltb}
 use lib.ListN.{take, drop}
-use Rattle.descriptors.specs.Record.{recordIn, update, isCpu, withNext, spanOf, handed}
+use Rattle.descriptors.specs.Record.{limit, recordIn, update, isCpu, withNext, spanOf, handed}
 use Rattle.descriptors.specs.Place.{after, before, turns}
 use Rattle.descriptors.specs.Ring.{Ring}
 use Rattle.descriptors.specs.declared.record.Next.the-variants.{At}
@@ -50,6 +50,10 @@ walk dir f n (suc k) m =
     cond (isCpu (f (m .at) .owner))
     (cond (ltb (m .rest) (spanOf dir (f (m .at)) - m .offset)) (inside m) (walk dir f n k (past dir f n m)))
     m
+
+-- the walk round a ring of n; more records than a ring can have are not walked over
+unfoldable pub walkIn : TransferDirection → (ℕ → DmaDescriptor) → ℕ → Moved → Moved
+walkIn dir f n m = cond (leb n limit) (walk dir f n n m) m
 
 -- a record handed to the device, "then the previous record's next is set to it"
 unfoldable pub handOver : TransferDirection → ℕ → ℕ → List DmaDescriptor → List DmaDescriptor

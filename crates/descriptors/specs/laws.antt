@@ -2,6 +2,7 @@
 pub mod Marks
 pub mod Tests
 pub mod Places
+pub mod Parts
 pub mod Updates
 pub mod Lifts
 pub mod Words

@@ -6,6 +6,9 @@ pub const LIMIT: usize = 64;
 // The most bytes that a record covers.
 pub const MOST: usize = 4095;
 
+// One past the last address.
+pub const TOP: usize = 4294967296;
+
 pub enum Owner {
     Cpu,
     Dma,

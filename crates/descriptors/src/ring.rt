@@ -8,9 +8,8 @@ ghost use lib.Dec.{eqb, leb, ltb};
 ghost use lib.ListN.{getD, length};
 ghost use Rattle.descriptors.specs.Record.{limit, upTo};
 ghost use Rattle.descriptors.specs.Cells.{cells, recordAt, allBelow, areRecords};
-ghost use Rattle.descriptors.specs.Split.{splitOf};
 ghost use Rattle.descriptors.specs.Stores.{layStart, laySize, layCells};
-ghost use Rattle.descriptors.specs.Ring.{ringOf, headOf, offsetOk, sound, splitSound, judged, splitDone, NewIn, betweenOf};
+ghost use Rattle.descriptors.specs.Ring.{ringOf, offsetOk, sound, splitSound, judged, splitDone, NewIn, betweenOf};
 use crate::cells;
 use crate::cells::CELLS;
 use crate::record::LIMIT;
@@ -64,10 +63,21 @@ fn starts_ok(s: &[u32], n: usize, chunk: usize) -> bool
         if s[i] != start {
             ok = false;
         }
-        start += step;
+        start = std::num::wrapping_add_u32(s[i], step);
         i += 1;
     }
     ok
+}
+
+// Where the scan of the sizes stops: behind the last record where its size is like the others'.
+fn scan_end(n: usize, chunk: usize, last: usize) -> usize
+    requires { ⌜ 0 < n ⌝ }
+    ensures { λ r. ⌜ r ≡ cond (eqb last chunk) n (n - 1) ⌝ }
+{
+    if last == chunk {
+        return n;
+    }
+    n - 1
 }
 
 fn sizes_ok(w: &[u16], n: usize, chunk: usize, last: usize) -> bool
@@ -75,7 +85,7 @@ fn sizes_ok(w: &[u16], n: usize, chunk: usize, last: usize) -> bool
     ensures { λ r. ⌜ r ≡ (allBelow (λ i. eqb (getD (now (w .entry)) i 0) chunk) (n - 1) && eqb (getD (now (w .entry)) (n - 1) 0) last) ⌝ }
 {
     let size = chunk as u16;
-    let end = n - 1;
+    let end = scan_end(n, chunk, last);
     let mut ok = true;
     let mut i: usize = 0;
     while i < end {
@@ -84,7 +94,7 @@ fn sizes_ok(w: &[u16], n: usize, chunk: usize, last: usize) -> bool
         }
         i += 1;
     }
-    if w[end] != last as u16 {
+    if w[n - 1] != last as u16 {
         return false;
     }
     ok

@@ -4,11 +4,10 @@ ghost use mathlib.Core.Bool.{cond};
 ghost use mathlib.Core.List.{[]};
 ghost use Prim.Native.Nat.{_-_, _<_};
 ghost use lib.Dec.{leb};
-ghost use Rattle.descriptors.specs.Record.{limit, spanOf, isIn, following, upTo};
-ghost use Rattle.descriptors.specs.Place.{turns};
+ghost use Rattle.descriptors.specs.Record.{limit, spanOf, isIn, following};
 ghost use Rattle.descriptors.specs.Cells.{recordAt, putNext};
-ghost use Rattle.descriptors.specs.Stores.{handCells, linkCells};
-ghost use Rattle.descriptors.specs.Walk.{runBytes, walk};
+ghost use Rattle.descriptors.specs.Stores.{handCells, linkCells, handAll, linkAll};
+ghost use Rattle.descriptors.specs.Walk.{runBytes, walkIn};
 use crate::cells;
 use crate::place;
 use crate::record::LIMIT;
@@ -58,8 +57,16 @@ pub fn run_bytes(w: &[u16], dir: TransferDirection, n: usize, i: usize) -> usize
 
 // Where k bytes lead from (i, o) on.
 pub fn walk_over(w: &[u16], dir: TransferDirection, n: usize, i: usize, o: usize, k: usize) -> Moved
-    ensures { λ r. ⌜ r ≡ walk dir (recordAt [] (now (w .entry))) n n (record { at = i; offset = o; rest = k; back = 0 }) ⌝ }
+    ensures { λ r. ⌜ r ≡ walkIn dir (recordAt [] (now (w .entry))) n (record { at = i; offset = o; rest = k; back = 0 }) ⌝ }
 {
+    if LIMIT < n {
+        return Moved {
+            at: i,
+            offset: o,
+            rest: k,
+            back: 0,
+        };
+    }
     let mut at = i;
     let mut offset = o;
     let mut rest = k;
@@ -149,8 +156,11 @@ fn hand_over_one(w: &mut [u16], dir: TransferDirection, n: usize, i: usize)
 
 // The records from i on go to the device, g of them, round a ring of n.
 pub fn hand_over(w: &mut [u16], dir: TransferDirection, n: usize, i: usize, g: usize)
-    ensures { λ _. ⌜ now (w .exit) ≡ turns (handCells dir n) n g i (now (w .entry)) ⌝ }
+    ensures { λ _. ⌜ now (w .exit) ≡ handAll dir n g i (now (w .entry)) ⌝ }
 {
+    if LIMIT < g {
+        return;
+    }
     let mut at = i;
     let mut left = g;
     while 0 < left {
@@ -202,8 +212,11 @@ fn link_one(w: &mut [u16], dir: TransferDirection, n: usize, i: usize)
 
 // Links up all the records, but not in a circle.
 pub fn link_all(w: &mut [u16], dir: TransferDirection, n: usize)
-    ensures { λ _. ⌜ now (w .exit) ≡ upTo (linkCells dir n) n (now (w .entry)) ⌝ }
+    ensures { λ _. ⌜ now (w .exit) ≡ linkAll dir n (now (w .entry)) ⌝ }
 {
+    if LIMIT < n {
+        return;
+    }
     let mut i: usize = 0;
     while i < n {
         link_one(w, dir, n, i);

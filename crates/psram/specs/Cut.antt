@@ -2,6 +2,7 @@
 use Prim.Native.Nat.{ℕ, _+_, _-_, _*_, _%_, _≤_}
 use mathlib.Core.Bool.{cond, _&&_}
 use lib.Dec.{leb, ltb}
+use Rattle.descriptors.specs.Record.{top}
 use Rattle.descriptors.specs.declared.refusal.DmaBufError.the-variants.{UnsupportedMemoryRegion}
 use Rattle.psram.specs.declared.chip.Chip.{Chip}
 use Rattle.psram.specs.declared.chip.Chip.the-variants.{Ordinary, S2}
@@ -15,9 +16,6 @@ line = 16
 
 abbrev pub piece : ℕ
 piece = 4080
-
-abbrev pub top : ℕ
-top = 4294967296
 
 -- "Ordinary chips: least 1, bounce 16. S2: least 5, bounce 24."
 abbrev pub leastOf : Chip → ℕ

@@ -4,11 +4,13 @@ use mathlib.Core.Bool.{Bool, true, cond, _&&_}
 use mathlib.Core.List.{List, []}
 use lib.Dec.{eqb, leb, ltb}
 use lib.ListN.{take, drop}
-use Rattle.descriptors.specs.Record.{limit}
+use denote.Ref.{RefT}
+use Rattle.descriptors.specs.Record.{limit, top}
+use Rattle.descriptors.specs.Part.{partFrom}
 use Rattle.descriptors.specs.declared.refusal.DmaBufError.the-variants.{TooManyDescriptors, BadState, TooMuch, UnsupportedMemoryRegion}
 use Rattle.descriptors.specs.declared.refusal.Done.{Done}
 use Rattle.descriptors.specs.declared.refusal.Done.the-variants as done
-use Rattle.psram.specs.Cut.{piece, top, bounceOf, planFor}
+use Rattle.psram.specs.Cut.{piece, bounceOf, planFor}
 use Rattle.psram.specs.declared.chip.Chip.{Chip}
 use Rattle.psram.specs.declared.plan.Plan.{Plan}
 use Rattle.psram.specs.declared.held.Held.{Held}
@@ -72,12 +74,18 @@ numberedBy (done.Refused e) n p i = Refused e
 unfoldable pub numberedOf : ℕ → ℕ → ℕ → Chip → ℕ → ℕ → Held
 numberedOf n address len chip store i = numberedBy (readyOf true n address len chip store) n (planFor chip address len) i
 
--- "A piece is shown as a part of the bounce store or of the caller's range, whichever holds it." "On a refusal the part is empty, and
+-- "A piece is shown as a part of the bounce store or of the caller's range, whichever holds it." "on a refusal the part is empty, and
 -- a companion call on the same inputs gives the refusal's number"
 abbrev pub shownOf : List ℕ → List ℕ → Held → List ℕ
 shownOf store range (InStore start size) = take size (drop start store)
 shownOf store range (InRange start size) = take size (drop start range)
 shownOf store range (Refused e) = []
+
+-- where in the one of the two that holds it the part begins
+abbrev pub placeOf : RefT (List ℕ) → RefT (List ℕ) → Held → ℕ × ℕ
+placeOf store range (InStore start size) = partFrom store start
+placeOf store range (InRange start size) = partFrom range start
+placeOf store range (Refused e) = partFrom store 0
 
 abbrev pub pieceRefusalOf : Held → Done
 pieceRefusalOf (InStore start size) = done.Ready

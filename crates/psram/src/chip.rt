@@ -8,9 +8,6 @@ pub const LINE: usize = 16;
 // The most bytes of a piece.
 pub const PIECE: usize = 4080;
 
-// One past the last address.
-pub const TOP: usize = 4294967296;
-
 pub enum Chip {
     Ordinary,
     S2,

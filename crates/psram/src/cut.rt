@@ -2,14 +2,15 @@
 ghost use mathlib.Core.Path.{_≡_};
 ghost use Prim.Native.Nat.{_+_, _<_};
 ghost use lib.Dec.{ltb};
-ghost use Rattle.psram.specs.Cut.{line, top, Sides, grown, headOf, planOf, planFor, cutOf};
+ghost use Rattle.descriptors.specs.Record.{top};
+ghost use Rattle.psram.specs.Cut.{line, Sides, grown, headOf, planOf, planFor, cutOf};
 use crate::chip::Chip;
 use crate::chip::LINE;
-use crate::chip::TOP;
 use crate::chip::bounce;
 use crate::chip::least;
 use crate::plan::Cut;
 use crate::plan::Plan;
+use descriptors::record::TOP;
 use descriptors::refusal::DmaBufError;
 
 // Whether a range goes past the last address.

@@ -2,8 +2,8 @@
 ghost use mathlib.Core.Path.{_≡_};
 ghost use Prim.Native.Nat.{_<_, _≤_};
 ghost use lib.ListN.{length};
-ghost use Rattle.psram.specs.Cut.{top};
-ghost use Rattle.psram.specs.Piece.{some, directs, bytesOf, piecesOf, pieceOf, directOf, readyOf, numberedOf, shownOf, pieceRefusalOf};
+ghost use Rattle.descriptors.specs.Record.{top};
+ghost use Rattle.psram.specs.Piece.{some, directs, bytesOf, piecesOf, pieceOf, directOf, readyOf, numberedOf, shownOf, placeOf, pieceRefusalOf};
 use crate::chip::Chip;
 use crate::chip::PIECE;
 use crate::chip::bounce;
@@ -101,7 +101,8 @@ pub(crate) fn ready(
     Done::Ready
 }
 
-fn numbered(n: usize, address: u32, length: usize, chip: Chip, store: usize, i: usize) -> Held
+// Where piece i of a range lies, as numbers.
+pub fn numbered(n: usize, address: u32, length: usize, chip: Chip, store: usize, i: usize) -> Held
     ensures { λ r. ⌜ r ≡ numberedOf n address length chip store i ⌝ }
 {
     match ready(true, n, address, length, chip, store) {
@@ -125,6 +126,7 @@ pub fn piece<'a>(
     i: usize,
 ) -> &'a [u8]
     ensures { λ r. ⌜ now r ≡ shownOf (now (store .entry)) (now (range .entry)) (numberedOf n address (length (now (range .entry))) chip (length (now (store .entry))) i) ⌝ }
+    ensures { λ r. ⌜ r .ptr ≡ placeOf (store .entry) (range .entry) (numberedOf n address (length (now (range .entry))) chip (length (now (store .entry))) i) ⌝ }
 {
     match numbered(n, address, range.len(), chip, store.len(), i) {
         Held::InStore { start, size } => {

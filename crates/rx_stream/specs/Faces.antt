@@ -4,7 +4,7 @@ use Prim.Native.Nat.{ℕ, _+_, _-_, _%_, _^_}
 use mathlib.Core.List.{List, []}
 use Rattle.descriptors.specs.Cells.{recordAt, startsNow, cellsNow}
 use Rattle.descriptors.specs.Ring.{Ring, Outcome, headOf}
-use Rattle.descriptors.specs.Walk.{walk}
+use Rattle.descriptors.specs.Walk.{walkIn}
 use Rattle.descriptors.specs.declared.record.TransferDirection.the-variants.{In}
 use Rattle.descriptors.specs.declared.refusal.Counted.{Counted}
 use Rattle.descriptors.specs.declared.refusal.Done.{Done}
@@ -77,7 +77,7 @@ partsOf b = record { starts = b .starts; cells = b .cells }
 
 unfoldable pub stepIn : List ℕ → Head → ℕ → Moved
 stepIn ws h k =
-    walk In (recordAt [] ws) (h .count) (h .count)
+    walkIn In (recordAt [] ws) (h .count)
     (record { at = h .«descriptor_idx»; offset = h .«descriptor_offset»; rest = k; back = 0 })
 
 abbrev pub takenBy : Head → ℕ → Moved → Taking

@@ -1,7 +1,7 @@
 -- Module 3, "Receive". A ring's rules ask for its buffer's length, or for the buffer's bytes.
 use Prim.Native.Nat.{ℕ, zero, suc, _+_, _-_}
-use mathlib.Core.Bool.{Bool, true, false, cond, _&&_, _||_}
-use mathlib.Core.List.{List, [], _∷_, _++_}
+use mathlib.Core.Bool.{Bool, false, cond, _&&_, _||_}
+use mathlib.Core.List.{List, [], _++_}
 use lib.Dec.{eqb, ltb}
 use lib.ListN.{length, take, drop}
 use Rattle.descriptors.specs.Record.{recordIn, isCpu}
@@ -19,7 +19,7 @@ use Rattle.rx_stream.specs.declared.Took.the-variants as took
 use Rattle.rx_stream.specs.declared.Ended.{Ended}
 use Rattle.rx_stream.specs.declared.Ended.the-variants as ended
 
--- "`prepare`: next i+1, last none; all DMA, EOF off, length 0; cursor (0,0)"; "`prepare` leaves the tally alone"
+-- "`prepare`: next i+1, last none; all DMA, EOF off, length 0 ..; cursor (0,0)"; "`prepare` leaves the tally alone"
 abbrev pub preparedRing : Ring → Ring
 preparedRing r =
     record {
@@ -62,9 +62,12 @@ peekFrom r = recordOf r (r .idx) .buffer + r .offset
 abbrev pub peekBytes : Bool → Ring → ℕ
 peekBytes untilEof r = flatBytes untilEof (recordIn (r .descriptors)) (r .count - r .idx) (r .idx) - r .offset
 
--- "peek hands back the very part of the lent buffer"; "on a refusal the part is empty"
+-- "peek hands back the very part of the lent buffer", which begins at its place; "on a refusal the part is empty"
 unfoldable pub peekOf : Bool → Ring → List ℕ → List ℕ
 peekOf untilEof r bytes = cond (sound In r (length bytes)) (take (peekBytes untilEof r) (drop (peekFrom r) bytes)) []
+
+unfoldable pub peekPlace : Ring → List ℕ → ℕ
+peekPlace r bytes = cond (sound In r (length bytes)) (peekFrom r) 0
 
 -- "a companion call on the same inputs gives the refusal's number or, for `peek_until_eof`, the yes or no"
 unfoldable pub peekRefusalOf : Ring → ℕ → Done

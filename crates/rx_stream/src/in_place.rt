@@ -5,11 +5,11 @@ ghost use mathlib.Core.List.{[]};
 ghost use lib.Dec.{eqb};
 ghost use lib.ListN.{length};
 ghost use Rattle.descriptors.specs.Record.{isCpu};
-ghost use Rattle.descriptors.specs.Place.{turns};
 ghost use Rattle.descriptors.specs.Cells.{cellsNow, recordAt};
-ghost use Rattle.descriptors.specs.Stores.{handCells};
+ghost use Rattle.descriptors.specs.Stores.{handAll};
+ghost use Rattle.descriptors.specs.Part.{partFrom};
 ghost use Rattle.descriptors.specs.Ring.{ringOf};
-ghost use Rattle.rx_stream.specs.Receive.{prepareOf, availableOf, peekOf, peekRefusalOf, peekEofOf, consumeOf, popOf, poppedOver};
+ghost use Rattle.rx_stream.specs.Receive.{prepareOf, availableOf, peekOf, peekPlace, peekRefusalOf, peekEofOf, consumeOf, popOf, poppedOver};
 ghost use Rattle.rx_stream.specs.Faces.{headedOf, consumingOf, poppingOf, stepIn, takenBy};
 use crate::Ended;
 use crate::Took;
@@ -66,6 +66,7 @@ fn part_in<'a, 'b>(
     buffer: &'a [u8],
 ) -> &'a [u8]
     ensures { λ r. ⌜ now r ≡ peekOf «until_eof» (ringOf (now (s .entry)) (now (w .entry)) h) (now (buffer .entry)) ⌝ }
+    ensures { λ r. ⌜ r .ptr ≡ partFrom (buffer .entry) (peekPlace (ringOf (now (s .entry)) (now (w .entry)) h) (now (buffer .entry))) ⌝ }
 {
     let answer = ring::judge(TransferDirection::In, s, w, h, buffer.len());
     let Done::Ready = answer else {
@@ -82,6 +83,7 @@ fn part_in<'a, 'b>(
 // The longest part of the buffer, from the cursor on, that holds bytes to read. It ignores EOFs.
 pub fn peek_in<'a, 'b>(s: &'b [u32], w: &'b [u16], h: Head, buffer: &'a [u8]) -> &'a [u8]
     ensures { λ r. ⌜ now r ≡ peekOf false (ringOf (now (s .entry)) (now (w .entry)) h) (now (buffer .entry)) ⌝ }
+    ensures { λ r. ⌜ r .ptr ≡ partFrom (buffer .entry) (peekPlace (ringOf (now (s .entry)) (now (w .entry)) h) (now (buffer .entry))) ⌝ }
 {
     part_in(s, w, h, false, buffer)
 }
@@ -89,6 +91,7 @@ pub fn peek_in<'a, 'b>(s: &'b [u32], w: &'b [u16], h: Head, buffer: &'a [u8]) ->
 // The same, but it does not skip over any EOF.
 pub fn peek_until_eof_in<'a, 'b>(s: &'b [u32], w: &'b [u16], h: Head, buffer: &'a [u8]) -> &'a [u8]
     ensures { λ r. ⌜ now r ≡ peekOf true (ringOf (now (s .entry)) (now (w .entry)) h) (now (buffer .entry)) ⌝ }
+    ensures { λ r. ⌜ r .ptr ≡ partFrom (buffer .entry) (peekPlace (ringOf (now (s .entry)) (now (w .entry)) h) (now (buffer .entry))) ⌝ }
 {
     part_in(s, w, h, true, buffer)
 }
@@ -121,7 +124,7 @@ pub struct Taking {
 
 // Takes k bytes, or all there are, from the cursor on: the core of consume and pop, total on any words.
 fn take_in(w: &mut [u16], h: Head, k: usize) -> Taking
-    ensures { λ r. ⌜ now (w .exit) ≡ turns (handCells TransferDirection.In (h .count)) (h .count) (stepIn (now (w .entry)) h k .back) (h .«descriptor_idx») (now (w .entry)) ⌝ }
+    ensures { λ r. ⌜ now (w .exit) ≡ handAll TransferDirection.In (h .count) (stepIn (now (w .entry)) h k .back) (h .«descriptor_idx») (now (w .entry)) ⌝ }
     ensures { λ r. ⌜ r ≡ takenBy h k (stepIn (now (w .entry)) h k) ⌝ }
 {
     let n = h.count;

@@ -2,7 +2,7 @@
 // is done in place, on lent words; document 01's calls, ring in and ring out, stand above it.
 use descriptors::refusal::DmaBufError;
 
-mod piece; // piece.rt: what lies in one piece from a record on
+pub mod piece; // piece.rt: what lies in one piece from a record on
 mod copy; // copy.rt: the bytes of the CPU-owned run, copied piece by piece
 pub mod in_place; // in_place.rt: the calls over lent words
 pub mod buf; // buf.rt: DmaRxStreamBuf, a ring before and after a transfer

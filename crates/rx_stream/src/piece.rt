@@ -1,7 +1,7 @@
 // What lies in one piece from a record on: through full records, to the end of the first short one, before a DMA-owned one, or to
 // the end of record n-1.
 ghost use mathlib.Core.Path.{_≡_};
-ghost use mathlib.Core.Bool.{cond};
+ghost use mathlib.Core.Bool.{false, cond};
 ghost use mathlib.Core.List.{[]};
 ghost use Prim.Native.Nat.{_-_, _<_};
 ghost use lib.Dec.{leb, ltb};
@@ -32,7 +32,7 @@ fn ends_with(w: &[u16], until_eof: bool, i: usize) -> bool
 }
 
 // How many bytes lie in one piece from the start of record i on.
-pub(crate) fn flat_bytes(w: &[u16], until_eof: bool, n: usize, i: usize) -> usize
+pub fn flat_bytes(w: &[u16], until_eof: bool, n: usize, i: usize) -> usize
     ensures { λ r. ⌜ r ≡ cond (leb n limit) (flatBytes «until_eof» (recordAt [] (now (w .entry))) (n - i) i) 0 ⌝ }
 {
     if LIMIT < n {
@@ -55,9 +55,12 @@ pub(crate) fn flat_bytes(w: &[u16], until_eof: bool, n: usize, i: usize) -> usiz
 }
 
 // Whether that piece, cut at the first EOF record, ends with one.
-pub(crate) fn flat_eof(w: &[u16], n: usize, i: usize) -> bool
-    ensures { λ r. ⌜ r ≡ flatEof (recordAt [] (now (w .entry))) (n - i) i ⌝ }
+pub fn flat_eof(w: &[u16], n: usize, i: usize) -> bool
+    ensures { λ r. ⌜ r ≡ cond (leb n limit) (flatEof (recordAt [] (now (w .entry))) (n - i) i) false ⌝ }
 {
+    if LIMIT < n {
+        return false;
+    }
     let mut at = i;
     while at < n {
         let owner = cells::owner_of(w, at);

@@ -2,8 +2,9 @@
 ghost use mathlib.Core.Path.{_≡_};
 ghost use mathlib.Core.Bool.{true, false};
 ghost use lib.ListN.{length};
+ghost use Rattle.descriptors.specs.Part.{partFrom};
 ghost use Rattle.descriptors.specs.Ring.{ringOf};
-ghost use Rattle.rx_stream.specs.Receive.{availableOf, peekOf, peekRefusalOf, peekEofOf, consumeOf, popOf, poppedOver};
+ghost use Rattle.rx_stream.specs.Receive.{availableOf, peekOf, peekPlace, peekRefusalOf, peekEofOf, consumeOf, popOf, poppedOver};
 ghost use Rattle.rx_stream.specs.Faces.{consumedOf, poppedOf};
 use crate::Ended;
 use crate::Took;
@@ -46,6 +47,7 @@ impl DmaRxStreamBufView {
     // The longest part of the buffer, from the cursor on, that holds bytes to read. It ignores EOFs.
     pub fn peek(self, buffer: &[u8]) -> &[u8]
         ensures { λ r. ⌜ now r ≡ peekOf false (ringOf (self .starts) (self .cells) (self .head)) (now (buffer .entry)) ⌝ }
+        ensures { λ r. ⌜ r .ptr ≡ partFrom (buffer .entry) (peekPlace (ringOf (self .starts) (self .cells) (self .head)) (now (buffer .entry))) ⌝ }
     {
         let s = self.starts;
         let w = self.cells;
@@ -56,6 +58,7 @@ impl DmaRxStreamBufView {
     // The same, but it does not skip over any EOF.
     pub fn peek_until_eof(self, buffer: &[u8]) -> &[u8]
         ensures { λ r. ⌜ now r ≡ peekOf true (ringOf (self .starts) (self .cells) (self .head)) (now (buffer .entry)) ⌝ }
+        ensures { λ r. ⌜ r .ptr ≡ partFrom (buffer .entry) (peekPlace (ringOf (self .starts) (self .cells) (self .head)) (now (buffer .entry))) ⌝ }
     {
         let s = self.starts;
         let w = self.cells;

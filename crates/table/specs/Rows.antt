@@ -1,7 +1,7 @@
 -- "Twelve entries for the proved table": "one constant table, proved by a single computed test and also run by the program".
 use Prim.Native.Nat.{ℕ, zero, suc, _+_, _*_}
 use mathlib.Core.Path.{_≡_, refl}
-use mathlib.Core.Bool.{Bool, true, false, _&&_}
+use mathlib.Core.Bool.{Bool, true, _&&_}
 use mathlib.Core.List.{List, [], _∷_}
 use lib.Dec.{eqb}
 use lib.ListN.{getD, length}
@@ -68,10 +68,11 @@ others (suc (suc k)) a b h g = refl
 abbrev pub at : ℕ → ℕ → ℕ
 at k j = getD rows (wide * k + j) 0
 
+abbrev pub sameAs : Answer → ℕ → Bool
+sameAs r k = eqb (r .refused) (at k 3) && (eqb (r .first) (at k 4) && (eqb (r .second) (at k 5) && eqb (r .third) (at k 6)))
+
 abbrev pub right : ℕ → Bool
-right k =
-    let r = answerOf (at k 0) (at k 1) (at k 2) in
-    eqb (r .refused) (at k 3) && (eqb (r .first) (at k 4) && (eqb (r .second) (at k 5) && eqb (r .third) (at k 6)))
+right k = sameAs (answerOf (at k 0) (at k 1) (at k 2)) k
 
 -- THE TWELVE ROWS: one test, which the checker computes
 pub rows-right : allBelow right count ≡ true

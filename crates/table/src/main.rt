@@ -1,9 +1,10 @@
 // Document 01's twelve rows, run: what the code answers to each, and whether that is what the row says.
 ghost use mathlib.Core.Path.{_≡_};
+ghost use Prim.Native.Nat.{_<_};
 ghost use lib.ListN.{getD};
 ghost use Rattle.descriptors.specs.Split.{splitOf};
 ghost use Rattle.psram.specs.Cut.{cutOf};
-ghost use Rattle.table.specs.Rows.{rows, answerOf, refusedAnswer, splitAnswer, cutAnswer};
+ghost use Rattle.table.specs.Rows.{rows, wide, count, at, sameAs, answerOf, refusedAnswer, splitAnswer, cutAnswer};
 use descriptors::refusal;
 use descriptors::refusal::DmaBufError;
 use descriptors::split;
@@ -175,7 +176,11 @@ fn answer_to(asked: u32, a: u32, b: u32) -> Answer
     cut_answer(a, b, Chip::S2)
 }
 
-fn is_same(r: Answer, k: usize) -> bool {
+// Whether an answer is what row k says.
+fn is_same(r: Answer, k: usize) -> bool
+    requires { ⌜ k < count ⌝ }
+    ensures { λ same. ⌜ same ≡ sameAs r k ⌝ }
+{
     if r.refused != number(k, 3) {
         return false;
     }
@@ -188,7 +193,10 @@ fn is_same(r: Answer, k: usize) -> bool {
     r.third == number(k, 6)
 }
 
-fn number(k: usize, j: usize) -> usize {
+fn number(k: usize, j: usize) -> usize
+    requires { ⌜ (k < count) × (j < wide) ⌝ }
+    ensures { λ r. ⌜ r ≡ at k j ⌝ }
+{
     entry_of(k, j) as usize
 }
 
@@ -225,7 +233,9 @@ fn show_answer(r: Answer) {
     show(r.third);
 }
 
-fn run_row(k: usize) {
+fn run_row(k: usize)
+    requires { ⌜ k < count ⌝ }
+{
     let name = [(65 + k % 26) as u8];
     say(&name);
     let asked = entry_of(k, 0);
@@ -243,13 +253,11 @@ fn run_row(k: usize) {
     }
 }
 
-fn entry_of(k: usize, j: usize) -> u32 {
-    if COUNT <= k {
-        return 0;
-    }
-    if WIDE <= j {
-        return 0;
-    }
+// Number j of row k.
+fn entry_of(k: usize, j: usize) -> u32
+    requires { ⌜ (k < count) × (j < wide) ⌝ }
+    ensures { λ r. ⌜ r ≡ at k j ⌝ }
+{
     entry(WIDE * k + j)
 }
 

@@ -1,16 +1,15 @@
 -- How the code's answers are read from the rules' outcomes, and what the parts of the calls do to the words.
-use Prim.Native.Nat.{ℕ, zero, suc, _+_, _-_, _%_, _^_}
-use mathlib.Core.Bool.{Bool, true, false, cond}
+use Prim.Native.Nat.{ℕ, _+_, _-_, _%_, _^_}
+use mathlib.Core.Bool.{true, cond}
 use mathlib.Core.List.{List, []}
-use lib.Dec.{eqb, leb, ltb}
+use lib.Dec.{eqb, leb}
 use lib.ListN.{length}
-use denote.Ref.{RefT}
 use Rattle.descriptors.specs.Record.{limit, upTo}
 use Rattle.descriptors.specs.Place.{turns}
-use Rattle.descriptors.specs.Cells.{cell, recordAt, cellsNow, putLength, putEof, putOwner, putNext}
-use Rattle.descriptors.specs.Stores.{handCells}
+use Rattle.descriptors.specs.Cells.{cell, recordAt, putLength, putEof, putOwner, putNext}
+use Rattle.descriptors.specs.Stores.{handAll}
 use Rattle.descriptors.specs.Ring.{Outcome, Ring, headOf, sound, splitSound}
-use Rattle.descriptors.specs.Walk.{runBytes, walk}
+use Rattle.descriptors.specs.Walk.{runBytes, walkIn}
 use Rattle.descriptors.specs.declared.record.Owner.the-variants.{Cpu}
 use Rattle.descriptors.specs.declared.record.Next.the-variants.{Nothing}
 use Rattle.descriptors.specs.declared.record.TransferDirection.the-variants.{Out}
@@ -40,9 +39,6 @@ countedOf (done.Refused e) = counted.Refused e
 
 -- ---- the parts on offer: each is the very part of the lent buffer that begins at a place
 
-abbrev pub partFrom : RefT (List ℕ) → ℕ → ℕ × ℕ
-partFrom buffer p = (buffer .ptr .0, p + buffer .ptr .1)
-
 unfoldable pub prefillPlace : Ring → List ℕ → ℕ
 prefillPlace r bytes = cond (splitSound r (length bytes)) (r .prefilled) 0
 
@@ -58,10 +54,10 @@ roomOf ws h = cond (leb (h .count) limit) (runBytes Out (recordAt [] ws) (h .cou
 -- where k bytes lead from the cursor
 abbrev pub walked : List ℕ → Head → ℕ → Moved
 walked ws h k =
-    walk Out (recordAt [] ws) (h .count) (h .count) (record { at = h .«descriptor_idx»; offset = h .«descriptor_offset»; rest = k; back = 0 })
+    walkIn Out (recordAt [] ws) (h .count) (record { at = h .«descriptor_idx»; offset = h .«descriptor_offset»; rest = k; back = 0 })
 
 unfoldable pub filledCells : List ℕ → Head → ℕ → List ℕ
-filledCells ws h k = turns (handCells Out (h .count)) (h .count) (walked ws h k .back) (h .«descriptor_idx») ws
+filledCells ws h k = handAll Out (h .count) (walked ws h k .back) (h .«descriptor_idx») ws
 
 unfoldable pub filledHead : List ℕ → Head → ℕ → Head
 filledHead ws h k =

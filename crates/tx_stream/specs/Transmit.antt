@@ -1,7 +1,7 @@
 -- Module 4, "Transmit". A ring's rules ask for its buffer's length, or for the buffer's bytes.
 use Prim.Native.Nat.{ℕ, zero, suc, _+_, _-_, _%_, _^_, min}
-use mathlib.Core.Bool.{Bool, true, false, cond}
-use mathlib.Core.List.{List, [], _∷_, _++_}
+use mathlib.Core.Bool.{true, cond}
+use mathlib.Core.List.{List, []}
 use lib.Dec.{eqb, leb, ltb}
 use lib.ListN.{length, take, drop}
 use lib.Seq.{paste}

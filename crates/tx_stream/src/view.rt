@@ -1,8 +1,9 @@
 // The ring by value, while the device sends: each call takes the ring and gives it back, over the call in place.
 ghost use mathlib.Core.Path.{_≡_};
 ghost use lib.ListN.{length};
+ghost use Rattle.descriptors.specs.Part.{partFrom};
 ghost use Rattle.tx_stream.specs.Transmit.{availableOf, pushOf, pushInto, offerOf, offerRefusalOf, commitOf, advanceOf};
-ghost use Rattle.tx_stream.specs.Faces.{partFrom, offerPlace};
+ghost use Rattle.tx_stream.specs.Faces.{offerPlace};
 ghost use Rattle.tx_stream.specs.Values.{viewRing, advancedOf};
 use crate::in_place;
 use descriptors::cells::CELLS;

@@ -1,4 +1,4 @@
-// "The device fills 01 02 03, then 04 05 with EOF .."
+// "the device fills 01 02 03, then 04 05 with EOF .."
 use crate::say;
 use descriptors::cells;
 use descriptors::record::Next;

@@ -1,4 +1,4 @@
-// "Transmit on D: prefill 2 .., 3, 4 .. push 5 .., 14"
+// Transmit on D: prefill 2, prefill 3, prefill 4 and push 5, prefill 14.
 use crate::say;
 use descriptors::cells;
 use tx_stream::buf::DmaTxStreamBuf;

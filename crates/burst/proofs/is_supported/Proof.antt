@@ -1,6 +1,7 @@
 use Prim.Native.Nat.{_<_, _≤_}
 use native.Mathlib.Omega.{arith}
-use Rattle.burst.specs.Burst.{top, supported}
+use Rattle.burst.specs.Burst.{supported}
+use Rattle.descriptors.specs.Record.{top}
 use mathlib.Core.Path.{sym, _∙_}
 use borrow.Author.Tests.{le-leb, lt-leb}
 use borrow.Author.Needs.{needs}

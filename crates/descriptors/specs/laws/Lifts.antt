@@ -2,7 +2,7 @@
 use Prim.Native.Nat.{ℕ, zero, suc, _+_, _*_, _≤_, _<_}
 use mathlib.Core.Path.{_≡_, refl, sym, _∙_, ap}
 use mathlib.Core.Bool.{Bool, true, false, cond, _&&_}
-use mathlib.Core.List.{List, [], _∷_}
+use mathlib.Core.List.{List, []}
 use native.Mathlib.Omega.{arith}
 use native.Mathlib.Decide.{decLt, ℕ-discrete}
 use borrow.Author.Tests.{eqb-true, leb-true, lt-ltb, le-ltb, le-leb, eq-eqb}
@@ -10,7 +10,7 @@ use lib.Dec.{eqb, leb, ltb}
 use lib.ListN.{getD, set, length, length-set, List·getD-eq-default}
 use lib.Seq.{getD-set-same, getD-set-other, set-out, ext-getD}
 use Rattle.descriptors.specs.Record.{limit, blank, recordIn, update, upTo, withBuffer, withSize, withLength, withEof, withOwner, withNext}
-use Rattle.descriptors.specs.Cells.{blocks, cells, cell, startAt, recordAt, allBelow, areCells, areRecords, tab, recordsOf, put, putStart, putSize, putLength, putNext, putOwner, putEof, ownerOf, eofOf, nextOf, ownerCell, eofCell, nextCell, numbered}
+use Rattle.descriptors.specs.Cells.{blocks, cells, cell, recordAt, areCells, areRecords, tab, recordsOf, put, putStart, putSize, putLength, putNext, putOwner, putEof, ownerCell, eofCell, nextCell, numbered}
 use Rattle.descriptors.specs.Place.{after, turns}
 use Rattle.descriptors.specs.laws.Places.{after-lt}
 use Rattle.descriptors.specs.laws.Marks.{owner-read, eof-read, next-read}

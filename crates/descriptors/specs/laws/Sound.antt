@@ -1,21 +1,19 @@
 -- What the scans of the cells say of the records, and what is known of a ring that is sound.
 use Prim.Native.Nat.{ℕ, zero, suc, _+_, _-_, _*_, _/_, _%_, _≤_, _<_}
 use mathlib.Core.Path.{_≡_, refl, sym, _∙_, ap}
-use mathlib.Core.Bool.{Bool, true, false, cond, _&&_, _||_}
+use mathlib.Core.Bool.{Bool, true, false, _&&_, _||_}
 use mathlib.Core.List.{List, []}
 use native.Mathlib.Omega.{arith}
-use borrow.Author.Tests.{ltb-true, ltb-false, leb-true, eqb-true, eqb-false, eq-eqb, ne-eqb, le-leb, lt-leb, lt-ltb, le-ltb}
+use borrow.Author.Tests.{ltb-true, ltb-false, leb-true, eqb-true, eq-eqb, ne-eqb, le-leb, lt-leb, lt-ltb}
 use lib.Dec.{eqb, leb, ltb}
 use lib.ListN.{getD, length}
-use Rattle.descriptors.specs.Record.{limit, least, most, recordIn, isCpu, spanOf}
-use Rattle.descriptors.specs.Cells.{cells, cell, startAt, recordAt, allBelow, areRecords, recordsOf, nextOf}
+use Rattle.descriptors.specs.Record.{limit, least, recordIn, isCpu, spanOf}
+use Rattle.descriptors.specs.Cells.{cell, recordAt, allBelow, areRecords, recordsOf, nextOf}
 use Rattle.descriptors.specs.Split.{accepts, startOf, sizeOf}
 use Rattle.descriptors.specs.Ring.{Ring, ringOf, recordOf, startsOk, sizesOk, lengthsOk, nextsOk, below, offsetOk, splitSound, sound, judged}
-use Rattle.descriptors.specs.laws.Tests.{not-both, and-split, and-join, and-never, and-right, and-fail, all-at, all-of, all-same}
-use Rattle.descriptors.specs.laws.Lifts.{words, record-is, records-none}
+use Rattle.descriptors.specs.laws.Tests.{not-both, and-split, and-never, and-fail, all-at, all-same}
+use Rattle.descriptors.specs.laws.Lifts.{record-is, records-none}
 use Rattle.descriptors.specs.laws.Splits.{Accepted, accepted, Known}
-use Rattle.descriptors.specs.declared.record.Next.{Next}
-use Rattle.descriptors.specs.declared.record.Next.the-variants.{Nothing, At}
 use Rattle.descriptors.specs.declared.record.DmaDescriptor.{DmaDescriptor}
 use Rattle.descriptors.specs.declared.record.TransferDirection.{TransferDirection}
 use Rattle.descriptors.specs.declared.record.TransferDirection.the-variants.{In, Out}

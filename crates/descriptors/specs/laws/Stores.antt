@@ -1,25 +1,22 @@
 -- The transitions on the cells are those of the records.
-use Prim.Native.Nat.{ℕ, zero, suc, _+_, _-_, _/_, _≤_, _<_}
+use Prim.Native.Nat.{ℕ, zero, suc, _+_, _/_, _≤_, _<_}
 use mathlib.Core.Path.{_≡_, refl, sym, _∙_, ap}
 use mathlib.Core.Bool.{Bool, true, false, cond}
 use mathlib.Core.List.{List}
 use native.Mathlib.Omega.{arith}
-use native.Mathlib.Numerals.{add-one}
-use borrow.Author.Tests.{lt-ltb, eqb-false}
+use borrow.Author.Tests.{lt-ltb, le-leb}
 use lib.Dec.{eqb}
-use Rattle.descriptors.specs.Record.{limit, isIn, recordIn, update, upTo, withOwner, withEof, withLength, withNext, withSize, withBuffer, given, queued, following, linked, handed}
+use Rattle.descriptors.specs.Record.{limit, isIn, update, upTo, withOwner, withEof, withLength, withNext, withSize, withBuffer, given, queued, following, linked, handed}
 use Rattle.descriptors.specs.Place.{before, turns}
-use Rattle.descriptors.specs.Cells.{cell, recordAt, areRecords, recordsOf, numbered, putStart, putSize, putLength, putEof, putOwner, putNext}
-use Rattle.descriptors.specs.Split.{startOf, sizeOf, laid, lengthAs, laidOut}
-use Rattle.descriptors.specs.Stores.{handedCells, handCells, linkCells, layStart, laySize, layCells}
+use Rattle.descriptors.specs.Cells.{cell, areRecords, recordsOf, numbered, putSize, putLength, putEof, putOwner, putNext}
+use Rattle.descriptors.specs.Split.{startOf, sizeOf, lengthAs, laidOut}
+use Rattle.descriptors.specs.Stores.{handedCells, handCells, handAll, linkCells, linkAll, layStart, laySize, layCells}
 use Rattle.descriptors.specs.Ring.{linkedAll}
 use Rattle.descriptors.specs.Walk.{handOver}
 use Rattle.descriptors.specs.laws.Tests.{not-both}
 use Rattle.descriptors.specs.laws.Updates.{update-twice, each, two-passes}
-use Rattle.descriptors.specs.laws.Lifts.{Becomes, Lifts, record-is, records-length, size-lifts, length-lifts, eof-lifts, owner-lifts, next-lifts, start-changes, lifts-then, lifts-as, lifts-up, lifts-turns}
-use Rattle.descriptors.specs.declared.record.Owner.{Owner}
-use Rattle.descriptors.specs.declared.record.Owner.the-variants.{Cpu, Dma}
-use Rattle.descriptors.specs.declared.record.Next.{Next}
+use Rattle.descriptors.specs.laws.Lifts.{Lifts, record-is, records-length, size-lifts, length-lifts, eof-lifts, owner-lifts, next-lifts, start-changes, lifts-then, lifts-as, lifts-up, lifts-turns}
+use Rattle.descriptors.specs.declared.record.Owner.the-variants.{Dma}
 use Rattle.descriptors.specs.declared.record.Next.the-variants.{Nothing, At}
 use Rattle.descriptors.specs.declared.record.DmaDescriptor.{DmaDescriptor}
 use Rattle.descriptors.specs.declared.record.TransferDirection.{TransferDirection}
@@ -131,3 +128,12 @@ lay-in Out i size chunk ws h = not-both h
 pub lay-out : (dir : TransferDirection) (i size chunk : ℕ) (ws : List ℕ) → isIn dir ≡ false → putLength (putSize ws i size) i chunk ≡ laySize dir i size chunk ws
 lay-out In i size chunk ws h = not-both (sym h)
 lay-out Out i size chunk ws h = refl
+
+-- no more records than a ring can have: all are handed over, all are linked
+pub hand-in : (dir : TransferDirection) (n g i : ℕ) (ws : List ℕ) → g ≤ limit → handAll dir n g i ws ≡ turns (handCells dir n) n g i ws
+unfolding handAll
+hand-in dir n g i ws h = rw (le-leb g limit h)
+
+pub link-in : (dir : TransferDirection) (n : ℕ) (ws : List ℕ) → n ≤ limit → linkAll dir n ws ≡ upTo (linkCells dir n) n ws
+unfolding linkAll
+link-in dir n ws h = rw (le-leb n limit h)

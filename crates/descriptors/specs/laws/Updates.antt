@@ -1,11 +1,11 @@
 -- Changes of one record after another, and changes at 0, 1, .., k - 1 in turn.
 use Prim.Native.Nat.{ℕ, zero, suc, _+_, _≤_, _<_}
 use mathlib.Core.Path.{_≡_, refl, sym, _∙_, ap}
-use mathlib.Core.List.{List, []}
+use mathlib.Core.List.{List}
 use native.Mathlib.Omega.{arith}
 use native.Mathlib.Numerals.{add-one}
 use native.Mathlib.Decide.{decLt}
-use lib.ListN.{getD, set, length, length-set}
+use lib.ListN.{length, length-set}
 use lib.Seq.{getD-set-same, getD-set-other, set-set, set-out, ext-getD}
 use Rattle.descriptors.specs.Record.{blank, recordIn, update, upTo}
 use Rattle.descriptors.specs.declared.record.DmaDescriptor.{DmaDescriptor}

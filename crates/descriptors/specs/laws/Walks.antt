@@ -1,16 +1,17 @@
 -- The steps of the run, of the walk and of the records handed over, which the loops of the code go by; and what they read of a ring:
 -- owners and spans.
 use Prim.Native.Nat.{ℕ, zero, suc, _+_, _-_, _≤_, _<_}
-use mathlib.Core.Path.{_≡_, refl, sym, _∙_, ap}
+use mathlib.Core.Path.{_≡_, refl, sym, ap}
 use mathlib.Core.Bool.{Bool, true, false, cond}
 use mathlib.Core.List.{List, []}
 use native.Mathlib.Omega.{arith}
-use borrow.Author.Tests.{lt-ltb, le-ltb}
-use lib.Dec.{ltb}
-use Rattle.descriptors.specs.Record.{recordIn, isCpu, spanOf}
+use borrow.Author.Tests.{lt-ltb, le-ltb, le-leb, lt-leb}
+use lib.Dec.{leb, ltb}
+use Rattle.descriptors.specs.Record.{limit, recordIn, isCpu, spanOf}
 use Rattle.descriptors.specs.Place.{after, turns}
-use Rattle.descriptors.specs.Cells.{areRecords, recordsOf, recordAt, ownerOf, cell}
-use Rattle.descriptors.specs.Walk.{runBytes, walk, past, inside}
+use Rattle.descriptors.specs.Cells.{areRecords, recordsOf, recordAt}
+use Rattle.descriptors.specs.Walk.{runBytes, walk, walkIn, past, inside, begun, planned}
+use Rattle.descriptors.specs.Ring.{Ring}
 use Rattle.descriptors.specs.laws.Lifts.{record-is}
 use Rattle.descriptors.specs.declared.record.Owner.{Owner}
 use Rattle.descriptors.specs.declared.record.DmaDescriptor.{DmaDescriptor}
@@ -66,6 +67,35 @@ module _ (dir : TransferDirection) (f : ℕ → DmaDescriptor) (n : ℕ) where
       go true false h = omega arith
       go false b h = omega arith
 
+  -- and uses up no more records than it may
+  pub walk-back : (k : ℕ) (m : Moved) → walk dir f n k m .back ≤ m .back + k
+  unfolding walk
+  walk-back zero m = omega arith
+  walk-back (suc k) m = go (isCpu (f (m .at) .owner)) (ltb (m .rest) (spanOf dir (f (m .at)) - m .offset)) (walk-back k (past dir f n m))
+    where
+      go : (a b : Bool) → walk dir f n k (past dir f n m) .back ≤ past dir f n m .back + k
+          → cond a (cond b (inside m) (walk dir f n k (past dir f n m))) m .back ≤ m .back + suc k
+      go true true h = omega arith
+      go true false h = omega arith
+      go false b h = omega arith
+
+  -- the walk round a whole ring, and more records than one can have
+  pub walk-in : (m : Moved) → n ≤ limit → walkIn dir f n m ≡ walk dir f n n m
+  unfolding walkIn
+  walk-in m h = rw (le-leb n limit h)
+
+  pub walk-out : (m : Moved) → limit < n → walkIn dir f n m ≡ m
+  unfolding walkIn
+  walk-out m h = rw (lt-leb n limit h)
+
+  pub walk-in-rest : (m : Moved) → walkIn dir f n m .rest ≤ m .rest
+  unfolding walkIn
+  walk-in-rest m = go (leb n limit)
+    where
+      go : (a : Bool) → cond a (walk dir f n n m) m .rest ≤ m .rest
+      go true = walk-rest n m
+      go false = omega arith
+
   -- what records handed over, one after another
   pub turns-none : {S : Type 0} (hand : ℕ → S → S) (i : ℕ) (s : S) → turns hand n 0 i s ≡ s
   unfolding turns
@@ -115,3 +145,8 @@ cells-alike dir st ws a =
     go : (dir : TransferDirection) (i : ℕ) → spanOf dir (recordAt [] ws i) ≡ spanOf dir (recordIn (recordsOf st ws) i)
     go In i = sym (ap (λ (d : DmaDescriptor). d .length) (record-is st ws a i))
     go Out i = sym (ap (λ (d : DmaDescriptor). d .size) (record-is st ws a i))
+
+-- a ring's walk hands over no more records than the ring has
+pub planned-few : (dir : TransferDirection) (r : Ring) (k : ℕ) → r .count ≤ limit → planned dir r k .back ≤ limit
+unfolding planned
+planned-few dir r k h = omega (arith, walk-back dir (recordIn (r .descriptors)) (r .count) (r .count) (begun r k))

@@ -2,15 +2,15 @@
 use Prim.Native.Nat.{ℕ, zero, suc, _+_, _*_, _-_, _≤_, _<_}
 use mathlib.Core.Path.{_≡_, refl, sym, _∙_, ap}
 use mathlib.Core.Bool.{Bool, true, false, cond}
-use mathlib.Core.List.{List, [], _∷_, _++_, map}
+use mathlib.Core.List.{List, _∷_, _++_, map}
 use native.Mathlib.Omega.{arith}
 use lib.ListN.{getD, length, take, drop, take-append-drop, length-drop}
 use lib.Seq.{drop-cons, take-length, drop-drop}
 use borrow.Author.Tests.{lt-ltb}
 use Rattle.descriptors.specs.Record.{limit}
-use Rattle.descriptors.specs.Cells.{cells, cell, startAt, recordAt, areRecords, tab, recordsOf, startsOf, cellsOf, startsNow, cellsNow, ownerOf, eofOf, nextOf, ownerCell, eofCell, nextCell}
+use Rattle.descriptors.specs.Cells.{cells, cell, recordAt, areRecords, tab, recordsOf, startsOf, cellsOf, startsNow, cellsNow, ownerCell, eofCell, nextCell}
 use Rattle.descriptors.specs.laws.Marks.{next-kept, owner-kept, eof-kept}
-use Rattle.descriptors.specs.laws.Lifts.{Words, words, records-tab, records-none}
+use Rattle.descriptors.specs.laws.Lifts.{Words, words, records-tab}
 use Rattle.descriptors.specs.declared.record.DmaDescriptor.{DmaDescriptor}
 
 map-tab : {A B : Type 0} (g : A → B) (f : ℕ → A) (k i : ℕ) → map g (tab f k i) ≡ tab (λ j. g (f j)) k i

@@ -6,12 +6,12 @@ use mathlib.Core.Logic.{_⊎_, inl, inr, ⊎-elim}
 use native.Mathlib.Omega.{arith}
 use lib.Dec.{eqb, leb, ltb}
 use borrow.Author.Tests.{ltb-true, ltb-false, leb-true}
-use Rattle.descriptors.specs.Record.{limit}
+use Rattle.descriptors.specs.Record.{limit, top}
 use Rattle.descriptors.specs.declared.refusal.DmaBufError.the-variants.{TooManyDescriptors, BadState, TooMuch, UnsupportedMemoryRegion}
 use Rattle.descriptors.specs.declared.refusal.DmaBufError.{DmaBufError}
 use Rattle.descriptors.specs.declared.refusal.Done.{Done}
 use Rattle.descriptors.specs.declared.refusal.Done.the-variants as done
-use Rattle.psram.specs.Cut.{piece, top, leastOf, bounceOf, planFor}
+use Rattle.psram.specs.Cut.{piece, leastOf, bounceOf, planFor}
 use Rattle.psram.specs.Piece.{Small, bytesOf, some, directs, directOf, pieceOf, startIn, sizeIn, readyOf, numberedBy, numberedOf}
 use Rattle.psram.specs.laws.Parts.{Parted, parted, bounce-is, sides}
 use Rattle.psram.specs.declared.chip.Chip.{Chip}

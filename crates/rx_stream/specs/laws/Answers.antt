@@ -11,7 +11,7 @@ use Rattle.descriptors.specs.declared.record.TransferDirection.the-variants.{In
 use Rattle.descriptors.specs.declared.refusal.DmaBufError.the-variants.{BadState}
 use Rattle.descriptors.specs.declared.refusal.Counted.the-variants as counted
 use Rattle.descriptors.specs.declared.refusal.Done.the-variants as done
-use Rattle.rx_stream.specs.Receive.{preparedRing, prepareOf, availableOf, flatEof, peekFrom, peekBytes, peekOf, peekEofOf, consumeOf, idle, popOf, over, poppedOver}
+use Rattle.rx_stream.specs.Receive.{preparedRing, prepareOf, availableOf, flatEof, peekPlace, peekFrom, peekBytes, peekOf, peekEofOf, consumeOf, idle, popOf, over, poppedOver}
 use Rattle.rx_stream.specs.declared.Took.the-variants as took
 use Rattle.rx_stream.specs.declared.Ended.the-variants as ended
 
@@ -70,6 +70,14 @@ module _ (r : Ring) (bytes : List ℕ) where
   pub peek-done : (u : Bool) → sound In r (length bytes) ≡ true → peekOf u r bytes ≡ take (peekBytes u r) (drop (peekFrom r) bytes)
   unfolding peekOf
   peek-done u e = rw e
+
+  pub place-refused : sound In r (length bytes) ≡ false → peekPlace r bytes ≡ 0
+  unfolding peekPlace
+  place-refused e = rw e
+
+  pub place-done : sound In r (length bytes) ≡ true → peekPlace r bytes ≡ peekFrom r
+  unfolding peekPlace
+  place-done e = rw e
 
   pub popped-refused : (dst : List ℕ) → sound In r (length bytes) ≡ false → poppedOver r bytes dst ≡ dst
   unfolding poppedOver

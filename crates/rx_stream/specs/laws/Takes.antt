@@ -8,11 +8,11 @@ use lib.Dec.{eqb}
 use Rattle.descriptors.specs.Record.{recordIn, isCpu, upTo}
 use Rattle.descriptors.specs.Place.{turns}
 use Rattle.descriptors.specs.Cells.{areRecords, recordsOf, recordAt, cellsNow}
-use Rattle.descriptors.specs.Stores.{handCells, linkCells}
+use Rattle.descriptors.specs.Stores.{handCells, handAll, linkCells, linkAll}
 use Rattle.descriptors.specs.Ring.{Ring, ringOf, headOf, recordOf, sound, splitSound, linkedAll, judged}
 use Rattle.descriptors.specs.Walk.{begun, planned, movedTo, advanced, takenIn, runBytes}
-use Rattle.descriptors.specs.laws.Stores.{run-lifts, all-linked}
-use Rattle.descriptors.specs.laws.Walks.{cells-alike, walk-alike, run-alike, run-go}
+use Rattle.descriptors.specs.laws.Stores.{run-lifts, all-linked, hand-in, link-in}
+use Rattle.descriptors.specs.laws.Walks.{cells-alike, walk-alike, run-alike, run-go, walk-in, planned-few}
 use Rattle.descriptors.specs.laws.Words.{cells-are}
 use Rattle.descriptors.specs.laws.Sound.{Facts, facts, split-facts, split-records, sound-split, offset-least, offset-dma}
 use Rattle.descriptors.specs.laws.Tests.{not-both}
@@ -44,14 +44,17 @@ module _ (st ws : List ℕ) (h : Head) (len : ℕ) (s : sound In (ringOf st ws h
 
   pub step-planned : (k : ℕ) → stepIn ws h k ≡ planned In (ringOf st ws h) k
   unfolding stepIn planned
-  step-planned k = walk-alike In (recordAt [] ws) (recordIn (recordsOf st ws)) (h .count) (cells-alike In st ws held) (h .count) (begun (ringOf st ws h) k)
+  step-planned k =
+      walk-in In (recordAt [] ws) (h .count) _ (known .split .parts .many)
+      ∙ walk-alike In (recordAt [] ws) (recordIn (recordsOf st ws)) (h .count) (cells-alike In st ws held) (h .count) (begun (ringOf st ws h) k)
 
-  pub taken-cells : (k : ℕ) → turns (handCells In (h .count)) (h .count) (stepIn ws h k .back) (h .«descriptor_idx») ws ≡ cellsNow st ws (advanced In (ringOf st ws h) k .descriptors)
+  pub taken-cells : (k : ℕ) → handAll In (h .count) (stepIn ws h k .back) (h .«descriptor_idx») ws ≡ cellsNow st ws (advanced In (ringOf st ws h) k .descriptors)
   unfolding movedTo
   taken-cells k =
       let g : ℕ = planned In (ringOf st ws h) k .back in
       let b = run-lifts In st (h .count) g (h .«descriptor_idx») (known .split .parts .many) (known .within) ws held in
-      ap (λ (m : Moved). turns (handCells In (h .count)) (h .count) (m .back) (h .«descriptor_idx») ws) (step-planned k)
+      ap (λ (m : Moved). handAll In (h .count) (m .back) (h .«descriptor_idx») ws) (step-planned k)
+      ∙ hand-in In (h .count) g (h .«descriptor_idx») ws (planned-few In (ringOf st ws h) k (known .split .parts .many))
       ∙ cells-are st ws (turns (handCells In (h .count)) (h .count) g (h .«descriptor_idx») ws) _ held (b .0) (b .1)
 
   -- and what is then reported
@@ -83,8 +86,8 @@ module _ (st ws : List ℕ) (h : Head) (len : ℕ) (s : sound In (ringOf st ws h
   run-shown = run-alike In (recordAt [] ws) (recordIn (recordsOf st ws)) (h .count) (cells-alike In st ws held) (h .count) (h .«descriptor_idx»)
 
 pub linked-cells : (st ws : List ℕ) (h : Head) (len : ℕ) → splitSound (ringOf st ws h) len ≡ true
-    → upTo (linkCells In (h .count)) (h .count) ws ≡ cellsNow st ws (linkedAll In (h .count) (recordsOf st ws))
+    → linkAll In (h .count) ws ≡ cellsNow st ws (linkedAll In (h .count) (recordsOf st ws))
 linked-cells st ws h len s =
     let a = split-records st ws h len s in
     let b = all-linked In st (h .count) (split-facts (ringOf st ws h) len s .parts .many) ws a in
-    cells-are st ws (upTo (linkCells In (h .count)) (h .count) ws) _ a (b .0) (b .1)
+    link-in In (h .count) ws (split-facts (ringOf st ws h) len s .parts .many) ∙ cells-are st ws (upTo (linkCells In (h .count)) (h .count) ws) _ a (b .0) (b .1)

@@ -1,19 +1,9 @@
-use Rattle.table.specs.Rows.{answerOf, cutAnswer, others}
-use lib.ListN.{getD, length}
-use lib.Dec.{eqb, leb, ltb}
-use native.Mathlib.Omega.{arith}
-use mathlib.Core.Logic.{⊎-elim}
-use mathlib.Core.List.{List, []}
-use mathlib.Core.Bool.{Bool, true, false, cond, _&&_}
-use mathlib.Core.Path.{_≡_, sym, ap, _∙_, refl}
-use Prim.Native.Nat.{ℕ, suc, _+_, _-_, _*_, _≤_, _<_}
+use Rattle.table.specs.Rows.{answerOf, others}
+use mathlib.Core.Path.{sym, ap, _∙_}
+use Prim.Native.Nat.{ℕ}
 use borrow.Author.Needs.{needs}
 use Rattle.table.proofs.answer_to.Statement.{statement}
 use Rattle.table.proofs.answer_to.Tie as tie
-use Rattle.table.proofs.answer_to.Reads as reads
-use Rattle.table.proofs.answer_to.Lts as lts
-use Rattle.table.proofs.cut_answer.Reads as cut-answer-reads
-use Rattle.table.proofs.split_answer.Reads as split-answer-reads
 
 split-answer-requires : tie.Need-split-answer-requires
 split-answer-requires c κs = search needs

@@ -1,19 +1,8 @@
 use Rattle.table.specs.Rows.{cutAnswer}
-use lib.ListN.{getD, length}
-use lib.Dec.{eqb, leb, ltb}
-use native.Mathlib.Omega.{arith}
-use mathlib.Core.Logic.{⊎-elim}
-use mathlib.Core.List.{List, []}
-use mathlib.Core.Bool.{Bool, true, false, cond, _&&_}
-use mathlib.Core.Path.{_≡_, sym, ap, _∙_, refl}
-use Prim.Native.Nat.{ℕ, suc, _+_, _-_, _*_, _≤_, _<_}
+use mathlib.Core.Path.{sym, ap, _∙_}
 use borrow.Author.Needs.{needs}
 use Rattle.table.proofs.cut_answer.Statement.{statement}
 use Rattle.table.proofs.cut_answer.Tie as tie
-use Rattle.table.proofs.cut_answer.Reads as reads
-use Rattle.table.proofs.cut_answer.Lts as lts
-use Rattle.psram.proofs.cut.cut.Reads as cut-reads
-use Rattle.table.proofs.refused.Reads as refused-reads
 
 cut-requires : tie.Need-cut-requires
 cut-requires c κs = search needs

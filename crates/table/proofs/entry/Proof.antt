@@ -1,18 +1,10 @@
 use lib.ListN.{List·getD-eq-default}
 use Rattle.table.specs.Rows.{rows, rows-whole}
-use lib.ListN.{getD, length}
-use lib.Dec.{eqb, leb, ltb}
 use native.Mathlib.Omega.{arith}
-use mathlib.Core.Logic.{⊎-elim}
-use mathlib.Core.List.{List, []}
-use mathlib.Core.Bool.{Bool, true, false, cond, _&&_}
-use mathlib.Core.Path.{_≡_, sym, ap, _∙_, refl}
-use Prim.Native.Nat.{ℕ, suc, _+_, _-_, _*_, _≤_, _<_}
+use mathlib.Core.Path.{sym, refl}
 use borrow.Author.Needs.{needs}
 use Rattle.table.proofs.entry.Statement.{statement}
 use Rattle.table.proofs.entry.Tie as tie
-use Rattle.table.proofs.entry.Reads as reads
-use Rattle.table.proofs.entry.Lts as lts
 
 mul-if1 : tie.Need-mul-if1
 mul-if1 c = search needs

@@ -1,17 +1,7 @@
-use lib.ListN.{getD, length}
-use lib.Dec.{eqb, leb, ltb}
 use borrow.Author.Needs.{needs}
-use native.Mathlib.Omega.{arith}
-use mathlib.Core.Logic.{⊎-elim}
-use mathlib.Core.List.{List, []}
-use mathlib.Core.Bool.{Bool, true, false, cond, _&&_}
-use mathlib.Core.Path.{_≡_, sym, ap, _∙_, refl}
-use Prim.Native.Nat.{ℕ, suc, _+_, _-_, _*_, _≤_, _<_}
+use Prim.Native.Nat.{_-_, _≤_}
 use Rattle.table.proofs.main.Statement.{statement}
 use Rattle.table.proofs.main.Tie as tie
-use Rattle.table.proofs.main.Reads as reads
-use Rattle.table.proofs.main.Lts as lts
-use Rattle.table.proofs.run_row.Reads as run-row-reads
 
 abbrev Inv-loop : tie.InvT-loop
 Inv-loop k₀ k =

@@ -1,9 +1,6 @@
 use borrow.Author.Needs.{needs}
 use Rattle.table.proofs.refused.Statement.{statement}
 use Rattle.table.proofs.refused.Tie as tie
-use Rattle.table.proofs.refused.Reads as reads
-use Rattle.table.proofs.refused.Lts as lts
-use Rattle.descriptors.proofs.refusal.number.Reads as number-reads
 
 number-requires : tie.Need-number-requires
 number-requires c κs = search needs

@@ -1,20 +1,10 @@
 use Rattle.descriptors.specs.laws.Splits.{parts-known}
 use Rattle.table.specs.Rows.{splitAnswer}
-use lib.ListN.{getD, length}
-use lib.Dec.{eqb, leb, ltb}
 use native.Mathlib.Omega.{arith}
-use mathlib.Core.Logic.{⊎-elim}
-use mathlib.Core.List.{List, []}
-use mathlib.Core.Bool.{Bool, true, false, cond, _&&_}
-use mathlib.Core.Path.{_≡_, sym, ap, _∙_, refl}
-use Prim.Native.Nat.{ℕ, suc, _+_, _-_, _*_, _≤_, _<_}
+use mathlib.Core.Path.{sym, ap, _∙_}
 use borrow.Author.Needs.{needs}
 use Rattle.table.proofs.split_answer.Statement.{statement}
 use Rattle.table.proofs.split_answer.Tie as tie
-use Rattle.table.proofs.split_answer.Reads as reads
-use Rattle.table.proofs.split_answer.Lts as lts
-use Rattle.descriptors.proofs.split.split_of.Reads as split-of-reads
-use Rattle.table.proofs.refused.Reads as refused-reads
 
 split-of-requires : tie.Need-split-of-requires
 split-of-requires c κs = search needs

@@ -1,5 +1,5 @@
 -- What the walk and the stores on the words are to the ring, where it is sound.
-use Prim.Native.Nat.{ℕ, _+_, _-_, _%_, _^_, _≤_, _<_}
+use Prim.Native.Nat.{ℕ, _+_, _-_, _%_, _^_, _≤_}
 use mathlib.Core.Path.{_≡_, refl, sym, _∙_, ap}
 use mathlib.Core.Bool.{Bool, true, false, cond}
 use mathlib.Core.List.{List, []}
@@ -9,17 +9,16 @@ use lib.Dec.{leb}
 use Rattle.descriptors.specs.Record.{limit, recordIn}
 use Rattle.descriptors.specs.Place.{turns}
 use Rattle.descriptors.specs.Cells.{areRecords, recordsOf, recordAt, startAt, cellsNow}
-use Rattle.descriptors.specs.Ring.{Outcome, ringOf, headOf, recordOf, refused, sound}
-use Rattle.descriptors.specs.Walk.{runBytes, availableIn, walk, handOver, planned, movedTo, advanced}
+use Rattle.descriptors.specs.Ring.{ringOf, headOf, refused, sound}
+use Rattle.descriptors.specs.Walk.{availableIn, handOver, planned, movedTo, advanced}
 use Rattle.descriptors.specs.laws.Lifts.{record-is}
 use Rattle.descriptors.specs.laws.Words.{cells-are, cells-same}
-use Rattle.descriptors.specs.laws.Stores.{run-lifts}
+use Rattle.descriptors.specs.laws.Stores.{run-lifts, hand-in}
 use Rattle.descriptors.specs.laws.Sound.{facts, sound-split, split-records}
-use Rattle.descriptors.specs.laws.Walks.{run-alike, walk-alike, cells-alike}
+use Rattle.descriptors.specs.laws.Walks.{run-alike, walk-alike, walk-in, cells-alike, planned-few}
 use Rattle.descriptors.specs.declared.record.DmaDescriptor.{DmaDescriptor}
 use Rattle.descriptors.specs.declared.record.TransferDirection.the-variants.{Out}
 use Rattle.descriptors.specs.declared.refusal.DmaBufError.the-variants.{TooMuch}
-use Rattle.descriptors.specs.declared.refusal.Counted.{Counted}
 use Rattle.descriptors.specs.declared.refusal.Counted.the-variants as counted
 use Rattle.descriptors.specs.declared.ring.Head.{Head}
 use Rattle.descriptors.specs.declared.walk.Moved.{Moved}
@@ -46,7 +45,7 @@ module _ (st ws : List ℕ) (h : Head) (len : ℕ) (s : sound Out (ringOf st ws 
 
   walked-is : (k : ℕ) → walked ws h k ≡ planned Out (ringOf st ws h) k
   unfolding planned
-  walked-is k = walk-alike Out (recordAt [] ws) (recordIn (recordsOf st ws)) (h .count) (cells-alike Out st ws held) (h .count) _
+  walked-is k = walk-in Out (recordAt [] ws) (h .count) _ many ∙ walk-alike Out (recordAt [] ws) (recordIn (recordsOf st ws)) (h .count) (cells-alike Out st ws held) (h .count) _
 
   pub filled-head : (k : ℕ) → filledHead ws h k ≡ headOf (advanced Out (ringOf st ws h) k)
   unfolding filledHead movedTo
@@ -66,7 +65,9 @@ module _ (st ws : List ℕ) (h : Head) (len : ℕ) (s : sound Out (ringOf st ws 
   filled-cells k =
       let i : ℕ = h .«descriptor_idx» in
       let b = run-lifts Out st (h .count) (walked ws h k .back) i many (facts Out (ringOf st ws h) len s .within) ws held in
-      cells-are st ws _ _ held (b .0)
+      let few : walked ws h k .back ≤ limit = omega (arith, ap (λ (m : Moved). m .back) (walked-is k), planned-few Out (ringOf st ws h) k many) in
+      hand-in Out (h .count) (walked ws h k .back) i ws few
+      ∙ cells-are st ws _ _ held (b .0)
       (b .1 ∙ ap (λ (m : Moved). turns (handOver Out (h .count)) (h .count) (m .back) i (recordsOf st ws)) (walked-is k))
 
   -- what is accepted up to a bound

@@ -4,16 +4,15 @@ use mathlib.Core.Path.{_≡_, refl, sym, _∙_, ap}
 use mathlib.Core.Bool.{Bool, true, false, cond}
 use mathlib.Core.List.{List, []}
 use native.Mathlib.Omega.{arith}
-use native.Mathlib.Numerals.{add-one}
-use borrow.Author.Tests.{lt-ltb, le-ltb, le-leb, lt-leb, eq-eqb, ne-eqb, ltb-true, ltb-false}
+use borrow.Author.Tests.{lt-ltb, le-ltb, le-leb, lt-leb, eq-eqb, ne-eqb}
 use lib.Dec.{eqb, leb, ltb}
 use lib.Seq.{set-getD}
-use Rattle.descriptors.specs.Record.{limit, blank, recordIn, update, upTo, spanOf, withOwner, withLength, withEof, withNext}
+use Rattle.descriptors.specs.Record.{blank, recordIn, update, upTo, withOwner, withLength, withEof, withNext}
 use Rattle.descriptors.specs.Cells.{cell, areRecords, recordsOf, recordAt, cellsNow, putLength, putEof, putOwner, putNext}
 use Rattle.descriptors.specs.Stores.{linkCells}
-use Rattle.descriptors.specs.Ring.{Outcome, Ring, ringOf, headOf, splitSound, linkedAll}
+use Rattle.descriptors.specs.Ring.{ringOf, splitSound, linkedAll}
 use Rattle.descriptors.specs.laws.Updates.{up-none, up-more}
-use Rattle.descriptors.specs.laws.Lifts.{Becomes, Lifts, record-is, length-lifts, eof-lifts, owner-lifts, next-lifts, lifts-then, lifts-up}
+use Rattle.descriptors.specs.laws.Lifts.{Lifts, record-is, length-lifts, eof-lifts, owner-lifts, next-lifts, lifts-then, lifts-up}
 use Rattle.descriptors.specs.laws.Stores.{lifts-more, all-linked}
 use Rattle.descriptors.specs.laws.Words.{cells-are}
 use Rattle.descriptors.specs.laws.Sound.{split-facts, split-records}
@@ -22,11 +21,10 @@ use Rattle.descriptors.specs.declared.record.Owner.the-variants.{Cpu}
 use Rattle.descriptors.specs.declared.record.Next.the-variants.{Nothing}
 use Rattle.descriptors.specs.declared.record.DmaDescriptor.{DmaDescriptor}
 use Rattle.descriptors.specs.declared.record.TransferDirection.the-variants.{Out}
-use Rattle.descriptors.specs.declared.refusal.Done.{Done}
 use Rattle.descriptors.specs.declared.refusal.Done.the-variants as done
 use Rattle.descriptors.specs.declared.ring.Head.{Head}
 use Rattle.descriptors.specs.declared.ring.Headed.{Headed}
-use Rattle.tx_stream.specs.Transmit.{Reached, reached, filled, filledTo, cut, cutAt, Marked, markedAt, markedReady, preparedAs, prepareOf}
+use Rattle.tx_stream.specs.Transmit.{Reached, reached, filled, filledTo, cut, cutAt, Marked, markedAt, markedReady, prepareOf}
 use Rattle.tx_stream.specs.Faces.{headedOf, fillCells, cutCells, markedCellsAt, markedCells, cursorAt, markedCursor}
 use Rattle.tx_stream.specs.laws.Rules.{prepare-yes}
 use Rattle.tx_stream.specs.declared.prepare.Cursor.{Cursor}

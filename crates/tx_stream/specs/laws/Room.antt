@@ -1,12 +1,12 @@
 -- The free run from the cursor lies in the buffer: it is no longer than the buffer, and the cursor stands before the buffer's end.
-use Prim.Native.Nat.{ℕ, zero, suc, _+_, _-_, _*_, _/_, _%_, _≤_, _<_}
+use Prim.Native.Nat.{ℕ, zero, suc, _+_, _*_, _/_, _≤_, _<_}
 use mathlib.Core.Path.{_≡_, refl, sym, _∙_, ap}
 use mathlib.Core.Bool.{Bool, true, false, cond}
 use native.Mathlib.Omega.{arith}
 use native.Mathlib.Decide.{decLt}
 use native.Mathlib.Nat.{div-add-mod}
 use borrow.Author.Tests.{lt-ltb, le-ltb, ltb-true, eq-eqb, ne-eqb}
-use lib.Dec.{eqb, ltb}
+use lib.Dec.{ltb}
 use Rattle.descriptors.specs.Record.{recordIn, isCpu}
 use Rattle.descriptors.specs.Place.{after}
 use Rattle.descriptors.specs.Split.{startOf, sizeOf}
@@ -15,7 +15,7 @@ use Rattle.descriptors.specs.Walk.{runBytes, availableIn}
 use Rattle.descriptors.specs.laws.Tests.{and-split}
 use Rattle.descriptors.specs.laws.Places.{after-lt}
 use Rattle.descriptors.specs.laws.Splits.{next-start, place-fits, size-most}
-use Rattle.descriptors.specs.laws.Sound.{SplitFacts, Facts, facts, offset-least}
+use Rattle.descriptors.specs.laws.Sound.{facts}
 use Rattle.descriptors.specs.declared.record.DmaDescriptor.{DmaDescriptor}
 use Rattle.descriptors.specs.declared.record.TransferDirection.the-variants.{Out}
 use Rattle.tx_stream.specs.Transmit.{writeAt}

@@ -1,7 +1,7 @@
 -- Each rule where the ring is refused, and where it is sound; and what the judge's answer tells of it.
-use Prim.Native.Nat.{ℕ, _+_, _-_, _%_, _^_, _≤_, _<_, min}
+use Prim.Native.Nat.{ℕ, _+_, _-_, _%_, _^_, min}
 use mathlib.Core.Path.{_≡_, refl, sym, _∙_, ap}
-use mathlib.Core.Bool.{Bool, true, false, cond}
+use mathlib.Core.Bool.{Bool, true, false}
 use mathlib.Core.List.{List, []}
 use native.Mathlib.Omega.{arith}
 use lib.Dec.{leb}
@@ -14,13 +14,14 @@ use Rattle.descriptors.specs.laws.Tests.{not-both}
 use Rattle.descriptors.specs.declared.record.TransferDirection.the-variants.{Out}
 use Rattle.descriptors.specs.declared.refusal.DmaBufError.{DmaBufError}
 use Rattle.descriptors.specs.declared.refusal.DmaBufError.the-variants.{BadState, TooMuch}
-use Rattle.descriptors.specs.declared.refusal.Counted.{Counted}
 use Rattle.descriptors.specs.declared.refusal.Counted.the-variants as counted
 use Rattle.descriptors.specs.declared.refusal.Done.{Done}
 use Rattle.descriptors.specs.declared.refusal.Done.the-variants as done
 use Rattle.descriptors.specs.Ring.{linkedAll}
 use Rattle.tx_stream.specs.Transmit.{prefilledBy, prefillOf, prefillInto, prefillOfferOf, prefillCommitOf, markedReady, preparedAs, prepareOf, availableOf, pushOf, pushInto, pasteRound, writeAt, offered, offerOf, acceptedUpTo, commitOf, advanceOf}
-use Rattle.tx_stream.specs.Faces.{countedOf, partFrom, prefillPlace, offerPlace}
+use Rattle.descriptors.specs.Part.{partFrom}
+use Rattle.descriptors.specs.laws.Parts.{front-place}
+use Rattle.tx_stream.specs.Faces.{countedOf, prefillPlace, offerPlace}
 
 -- what the judge refuses is not sound, and the refusal is 5
 pub unsound : (b : Bool) (d : Done) (e : DmaBufError) → d ≡ judged b → d ≡ done.Refused e → b ≡ false
@@ -137,16 +138,13 @@ offer-yes r bytes e = rw e
 
 -- ---- where the parts on offer begin
 
-whole-place : (b : RefT (List ℕ)) (p : ℕ) → p ≡ 0 → partFrom b p ≡ b .ptr
-whole-place b p z = let e : p + b .ptr .1 ≡ b .ptr .1 = omega arith in ap (λ (k : ℕ). (b .ptr .0, k)) e
-
 pub offer-at : (r : Ring) (bytes : List ℕ) → sound Out r (length bytes) ≡ true → offerPlace r bytes ≡ writeAt r
 unfolding offerPlace
 offer-at r bytes e = rw e
 
 pub offer-place-no : (r : Ring) (bytes : List ℕ) (b : RefT (List ℕ)) → sound Out r (length bytes) ≡ false → partFrom b (offerPlace r bytes) ≡ b .ptr
 unfolding offerPlace
-offer-place-no r bytes b e = rw e (whole-place b 0 refl)
+offer-place-no r bytes b e = rw e (front-place b 0 refl)
 
 pub prefill-offer-at : (r : Ring) (bytes : List ℕ) → splitSound r (length bytes) ≡ true → prefillPlace r bytes ≡ r .prefilled
 unfolding prefillPlace
@@ -154,7 +152,7 @@ prefill-offer-at r bytes e = rw e
 
 pub prefill-place-no : (r : Ring) (bytes : List ℕ) (b : RefT (List ℕ)) → splitSound r (length bytes) ≡ false → partFrom b (prefillPlace r bytes) ≡ b .ptr
 unfolding prefillPlace
-prefill-place-no r bytes b e = rw e (whole-place b 0 refl)
+prefill-place-no r bytes b e = rw e (front-place b 0 refl)
 
 -- the tally goes round, whether or not what is added has gone round before
 pub tally-wraps : (a b : ℕ) → (a + b % 4294967296) % 2 ^ 32 ≡ (a + b) % 2 ^ 32

@@ -1,20 +1,19 @@
 -- A ring by value, from what the call in place leaves of its words and its head.
 use Prim.Native.Nat.{ℕ, _-_}
 use mathlib.Core.Path.{_≡_, refl, sym, _∙_, ap}
-use mathlib.Core.Bool.{Bool, true, false, cond}
+use mathlib.Core.Bool.{Bool, true, false}
 use mathlib.Core.List.{List}
 use lib.Dec.{leb}
-use Rattle.descriptors.specs.Cells.{recordsOf, startsNow, cellsNow}
-use Rattle.descriptors.specs.Ring.{Ring, Outcome, ringOf, splitSound, newOf, NewIn}
+use Rattle.descriptors.specs.Cells.{recordsOf, cellsNow}
+use Rattle.descriptors.specs.Ring.{Ring, Outcome, splitSound, newOf, NewIn}
 use Rattle.descriptors.specs.laws.Words.{cells-same}
 use Rattle.descriptors.specs.declared.record.TransferDirection.the-variants.{Out}
 use Rattle.descriptors.specs.declared.refusal.Counted.{Counted}
 use Rattle.descriptors.specs.declared.refusal.Done.{Done}
-use Rattle.descriptors.specs.declared.ring.Head.{Head}
 use Rattle.descriptors.specs.declared.ring.Headed.{Headed}
 use Rattle.tx_stream.specs.Transmit.{prefillOf, prefillCommitOf}
 use Rattle.tx_stream.specs.Faces.{acceptingOf, headedOf}
-use Rattle.tx_stream.specs.Values.{bufRing, builtOf, pushedOf, preparedOf, advancedOf}
+use Rattle.tx_stream.specs.Values.{builtOf, pushedOf, preparedOf, advancedOf}
 use Rattle.tx_stream.specs.laws.Rules.{prefill-no, prefill-yes, prefill-commit-no, prefill-commit-much, prefill-commit-yes}
 use Rattle.tx_stream.specs.declared.answer.Accepting.{Accepting}
 use Rattle.tx_stream.specs.declared.buf.DmaTxStreamBuf.{DmaTxStreamBuf}

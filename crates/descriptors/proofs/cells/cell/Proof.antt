@@ -1,13 +1,10 @@
 use lib.ListN.{List·getD-eq-default}
-use mathlib.Core.Path.{_≡_, refl, sym, _∙_, ap}
+use mathlib.Core.Path.{sym, _∙_}
 use native.Mathlib.Omega.{arith}
-use borrow.Author.Tests.{eq-eqb, ne-eqb, lt-ltb, le-ltb}
+use borrow.Author.Tests.{lt-ltb, le-ltb}
 use borrow.Author.Needs.{needs}
 use Rattle.descriptors.proofs.cells.cell.Statement.{statement}
 use Rattle.descriptors.proofs.cells.cell.Tie as tie
-use Rattle.descriptors.proofs.cells.cell.Reads as reads
-use Rattle.descriptors.proofs.cells.cell.Lts as lts
-use Rattle.descriptors.proofs.cells.wide.Reads as wide-reads
 
 returns : tie.Need-returns
 returns c = (simp (le-ltb _ _ (c .if1 .taken)), omega arith)

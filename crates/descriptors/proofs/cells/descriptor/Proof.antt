@@ -1,14 +1,6 @@
 use borrow.Author.Needs.{needs}
 use Rattle.descriptors.proofs.cells.descriptor.Statement.{statement}
 use Rattle.descriptors.proofs.cells.descriptor.Tie as tie
-use Rattle.descriptors.proofs.cells.descriptor.Reads as reads
-use Rattle.descriptors.proofs.cells.descriptor.Lts as lts
-use Rattle.descriptors.proofs.cells.length_of.Reads as length-of-reads
-use Rattle.descriptors.proofs.cells.next_of.Reads as next-of-reads
-use Rattle.descriptors.proofs.cells.owner_of.Reads as owner-of-reads
-use Rattle.descriptors.proofs.cells.size_of.Reads as size-of-reads
-use Rattle.descriptors.proofs.cells.start_of.Reads as start-of-reads
-use Rattle.descriptors.proofs.cells.suc_eof_of.Reads as suc-eof-of-reads
 
 start-of-requires : tie.Need-start-of-requires
 start-of-requires c κs = search needs

@@ -1,10 +1,8 @@
 use Rattle.descriptors.specs.Cells.{numbered}
-use mathlib.Core.Path.{_≡_, refl, sym, _∙_, ap}
+use mathlib.Core.Path.{sym, ap}
 use borrow.Author.Needs.{needs}
 use Rattle.descriptors.proofs.cells.is_numbered.Statement.{statement}
 use Rattle.descriptors.proofs.cells.is_numbered.Tie as tie
-use Rattle.descriptors.proofs.cells.is_numbered.Reads as reads
-use Rattle.descriptors.proofs.cells.is_numbered.Lts as lts
 
 enum-told : tie.Need-enum-told
 enum-told c = search needs

@@ -1,12 +1,10 @@
 use borrow.Author.Tests.{ltb-true}
 use native.Mathlib.Omega.{arith}
 use Rattle.descriptors.specs.Cells.{numbered, nextCell}
-use mathlib.Core.Path.{_≡_, refl, sym, _∙_, ap}
+use mathlib.Core.Path.{sym, _∙_, ap}
 use borrow.Author.Needs.{needs}
 use Rattle.descriptors.proofs.cells.next_cell.Statement.{statement}
 use Rattle.descriptors.proofs.cells.next_cell.Tie as tie
-use Rattle.descriptors.proofs.cells.next_cell.Reads as reads
-use Rattle.descriptors.proofs.cells.next_cell.Lts as lts
 
 enum-told : tie.Need-enum-told
 enum-told c = search needs

@@ -3,8 +3,6 @@ use borrow.Author.Tests.{eq-eqb, ne-eqb, lt-ltb, le-ltb}
 use borrow.Author.Needs.{needs}
 use Rattle.descriptors.proofs.cells.put.Statement.{statement}
 use Rattle.descriptors.proofs.cells.put.Tie as tie
-use Rattle.descriptors.proofs.cells.put.Reads as reads
-use Rattle.descriptors.proofs.cells.put.Lts as lts
 
 returns : tie.Need-returns
 unfolding put

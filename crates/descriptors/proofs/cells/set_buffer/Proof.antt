@@ -1,10 +1,8 @@
 use lib.Seq.{set-out}
-use mathlib.Core.Path.{_≡_, refl, sym, _∙_, ap}
+use mathlib.Core.Path.{sym}
 use borrow.Author.Needs.{needs}
 use Rattle.descriptors.proofs.cells.set_buffer.Statement.{statement}
 use Rattle.descriptors.proofs.cells.set_buffer.Tie as tie
-use Rattle.descriptors.proofs.cells.set_buffer.Reads as reads
-use Rattle.descriptors.proofs.cells.set_buffer.Lts as lts
 
 mul-s : tie.Need-mul-s
 mul-s c = search needs

@@ -1,14 +1,6 @@
 use borrow.Author.Needs.{needs}
 use Rattle.descriptors.proofs.cells.set_descriptor.Statement.{statement}
 use Rattle.descriptors.proofs.cells.set_descriptor.Tie as tie
-use Rattle.descriptors.proofs.cells.set_descriptor.Reads as reads
-use Rattle.descriptors.proofs.cells.set_descriptor.Lts as lts
-use Rattle.descriptors.proofs.cells.set_buffer.Reads as set-buffer-reads
-use Rattle.descriptors.proofs.cells.set_length.Reads as set-length-reads
-use Rattle.descriptors.proofs.cells.set_next.Reads as set-next-reads
-use Rattle.descriptors.proofs.cells.set_owner.Reads as set-owner-reads
-use Rattle.descriptors.proofs.cells.set_size.Reads as set-size-reads
-use Rattle.descriptors.proofs.cells.set_suc_eof.Reads as set-suc-eof-reads
 
 set-buffer-requires : tie.Need-set-buffer-requires
 set-buffer-requires c κs = search needs

@@ -1,12 +1,7 @@
-use mathlib.Core.Path.{_≡_, refl, sym, _∙_, ap}
+use mathlib.Core.Path.{sym, _∙_}
 use borrow.Author.Needs.{needs}
 use Rattle.descriptors.proofs.cells.set_next.Statement.{statement}
 use Rattle.descriptors.proofs.cells.set_next.Tie as tie
-use Rattle.descriptors.proofs.cells.set_next.Reads as reads
-use Rattle.descriptors.proofs.cells.set_next.Lts as lts
-use Rattle.descriptors.proofs.cells.is_numbered.Reads as is-numbered-reads
-use Rattle.descriptors.proofs.cells.next_cell.Reads as next-cell-reads
-use Rattle.descriptors.proofs.cells.put.Reads as put-reads
 
 is-numbered-requires : tie.Need-is-numbered-requires
 is-numbered-requires c κs = search needs

@@ -1,11 +1,6 @@
-use mathlib.Core.Path.{_≡_, refl, sym, _∙_, ap}
 use borrow.Author.Needs.{needs}
 use Rattle.descriptors.proofs.cells.set_owner.Statement.{statement}
 use Rattle.descriptors.proofs.cells.set_owner.Tie as tie
-use Rattle.descriptors.proofs.cells.set_owner.Reads as reads
-use Rattle.descriptors.proofs.cells.set_owner.Lts as lts
-use Rattle.descriptors.proofs.cells.owner_cell.Reads as owner-cell-reads
-use Rattle.descriptors.proofs.cells.put.Reads as put-reads
 
 owner-cell-requires : tie.Need-owner-cell-requires
 owner-cell-requires c κs = search needs

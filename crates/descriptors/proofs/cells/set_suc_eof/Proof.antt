@@ -1,11 +1,6 @@
-use mathlib.Core.Path.{_≡_, refl, sym, _∙_, ap}
 use borrow.Author.Needs.{needs}
 use Rattle.descriptors.proofs.cells.set_suc_eof.Statement.{statement}
 use Rattle.descriptors.proofs.cells.set_suc_eof.Tie as tie
-use Rattle.descriptors.proofs.cells.set_suc_eof.Reads as reads
-use Rattle.descriptors.proofs.cells.set_suc_eof.Lts as lts
-use Rattle.descriptors.proofs.cells.eof_cell.Reads as eof-cell-reads
-use Rattle.descriptors.proofs.cells.put.Reads as put-reads
 
 eof-cell-requires : tie.Need-eof-cell-requires
 eof-cell-requires c κs = search needs

@@ -1,10 +1,8 @@
 use lib.ListN.{List·getD-eq-default}
-use mathlib.Core.Path.{_≡_, refl, sym, _∙_, ap}
+use mathlib.Core.Path.{sym}
 use borrow.Author.Needs.{needs}
 use Rattle.descriptors.proofs.cells.start_of.Statement.{statement}
 use Rattle.descriptors.proofs.cells.start_of.Tie as tie
-use Rattle.descriptors.proofs.cells.start_of.Reads as reads
-use Rattle.descriptors.proofs.cells.start_of.Lts as lts
 
 returns : tie.Need-returns
 returns c = sym (List·getD-eq-default (c .before .args .s .now) 0 (c .if1 .taken))

@@ -2,9 +2,6 @@ use Rattle.descriptors.specs.laws.Marks.{eof-some}
 use borrow.Author.Needs.{needs}
 use Rattle.descriptors.proofs.cells.suc_eof_of.Statement.{statement}
 use Rattle.descriptors.proofs.cells.suc_eof_of.Tie as tie
-use Rattle.descriptors.proofs.cells.suc_eof_of.Reads as reads
-use Rattle.descriptors.proofs.cells.suc_eof_of.Lts as lts
-use Rattle.descriptors.proofs.cells.cell.Reads as cell-reads
 
 cell-requires : tie.Need-cell-requires
 cell-requires c κs = search needs

@@ -1,12 +1,10 @@
 use Prim.Native.Nat.{_+_}
 use native.Mathlib.Omega.{arith}
-use borrow.Author.Tests.{eq-eqb, ne-eqb, lt-ltb, le-ltb}
-use mathlib.Core.Path.{_≡_, refl, sym, _∙_, ap}
+use borrow.Author.Tests.{lt-ltb, le-ltb}
+use mathlib.Core.Path.{sym}
 use borrow.Author.Needs.{needs}
 use Rattle.descriptors.proofs.place.after.Statement.{statement}
 use Rattle.descriptors.proofs.place.after.Tie as tie
-use Rattle.descriptors.proofs.place.after.Reads as reads
-use Rattle.descriptors.proofs.place.after.Lts as lts
 
 returns : tie.Need-returns
 returns c = sym (simp (le-ltb (c .before .args .i + 1) (c .before .args .n) (omega arith)))

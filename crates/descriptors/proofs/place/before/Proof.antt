@@ -1,10 +1,8 @@
-use borrow.Author.Tests.{eq-eqb, ne-eqb, lt-ltb, le-ltb}
-use mathlib.Core.Path.{_≡_, refl, sym, _∙_, ap}
+use borrow.Author.Tests.{eq-eqb, ne-eqb}
+use mathlib.Core.Path.{sym}
 use borrow.Author.Needs.{needs}
 use Rattle.descriptors.proofs.place.before.Statement.{statement}
 use Rattle.descriptors.proofs.place.before.Tie as tie
-use Rattle.descriptors.proofs.place.before.Reads as reads
-use Rattle.descriptors.proofs.place.before.Lts as lts
 
 sub-result : tie.Need-sub-result
 sub-result c = search needs

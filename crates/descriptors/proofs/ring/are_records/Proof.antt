@@ -1,12 +1,9 @@
 use Rattle.descriptors.specs.Cells.{areRecords, areCells}
 use Rattle.descriptors.specs.laws.Tests.{and-stop, and-go}
-use borrow.Author.Tests.{eq-eqb, ne-eqb, lt-ltb, le-ltb, le-leb, lt-leb, not-true, not-false}
+use borrow.Author.Tests.{eq-eqb, ne-eqb}
 use borrow.Author.Needs.{needs}
 use Rattle.descriptors.proofs.ring.are_records.Statement.{statement}
 use Rattle.descriptors.proofs.ring.are_records.Tie as tie
-use Rattle.descriptors.proofs.ring.are_records.Reads as reads
-use Rattle.descriptors.proofs.ring.are_records.Lts as lts
-use Rattle.descriptors.proofs.ring.marks_ok.Reads as marks-ok-reads
 
 returns : tie.Need-returns
 unfolding areRecords

@@ -6,24 +6,15 @@ use Rattle.descriptors.specs.laws.Lifts.{words}
 use Rattle.descriptors.specs.Ring.{ringOf, splitSound, sound, offsetOk, judged}
 use Rattle.descriptors.specs.Record.{limit}
 use Rattle.descriptors.specs.Cells.{areRecords, recordAt}
-use borrow.Author.Tests.{eq-eqb, ne-eqb, lt-ltb, le-ltb, le-leb, lt-leb, not-true, not-false}
-use lib.ListN.{getD, length}
-use lib.Dec.{eqb, leb, ltb}
-use native.Mathlib.Omega.{arith}
-use mathlib.Core.Logic.{⊎-elim}
+use borrow.Author.Tests.{lt-ltb, le-ltb, not-true, not-false}
+use lib.Dec.{ltb}
 use mathlib.Core.List.{List, []}
-use mathlib.Core.Bool.{Bool, true, false, cond, _&&_}
+use mathlib.Core.Bool.{Bool, true, _&&_}
 use mathlib.Core.Path.{_≡_, sym, ap, _∙_, refl}
-use Prim.Native.Nat.{ℕ, suc, _+_, _-_, _*_, _≤_, _<_}
+use Prim.Native.Nat.{ℕ, _≤_}
 use borrow.Author.Needs.{needs}
 use Rattle.descriptors.proofs.ring.judge.Statement.{statement}
 use Rattle.descriptors.proofs.ring.judge.Tie as tie
-use Rattle.descriptors.proofs.ring.judge.Reads as reads
-use Rattle.descriptors.proofs.ring.judge.Lts as lts
-use Rattle.descriptors.proofs.ring.judge_split.Reads as judge-split-reads
-use Rattle.descriptors.proofs.ring.lengths_ok.Reads as lengths-ok-reads
-use Rattle.descriptors.proofs.ring.nexts_ok.Reads as nexts-ok-reads
-use Rattle.descriptors.proofs.ring.offset_ok.Reads as offset-ok-reads
 
 -- what is known once the split is sound
 abbrev way : tie.After-enum-told → TransferDirection

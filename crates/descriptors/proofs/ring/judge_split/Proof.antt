@@ -4,26 +4,18 @@ use Rattle.descriptors.specs.laws.Sound.{split-refused, split-no-records
 use Rattle.descriptors.specs.laws.Splits.{Known, parts-known}
 use Rattle.descriptors.specs.laws.Lifts.{words}
 use Rattle.descriptors.specs.Ring.{ringOf, splitSound, judged}
-use Rattle.descriptors.specs.Split.{splitOf, isParts}
+use Rattle.descriptors.specs.Split.{isParts}
 use Rattle.descriptors.specs.Cells.{areRecords}
-use borrow.Author.Tests.{eq-eqb, ne-eqb, lt-ltb, le-ltb, le-leb, lt-leb, not-true, not-false}
-use lib.ListN.{getD, length}
-use lib.Dec.{eqb, leb, ltb}
+use borrow.Author.Tests.{le-leb, lt-leb, not-true, not-false}
+use lib.Dec.{leb}
 use native.Mathlib.Omega.{arith}
-use mathlib.Core.Logic.{⊎-elim}
-use mathlib.Core.List.{List, []}
-use mathlib.Core.Bool.{Bool, true, false, cond, _&&_}
-use mathlib.Core.Path.{_≡_, sym, ap, _∙_, refl}
-use Prim.Native.Nat.{ℕ, suc, _+_, _-_, _*_, _≤_, _<_}
+use mathlib.Core.List.{List}
+use mathlib.Core.Bool.{true, _&&_}
+use mathlib.Core.Path.{_≡_, sym, ap, _∙_}
+use Prim.Native.Nat.{ℕ}
 use borrow.Author.Needs.{needs}
 use Rattle.descriptors.proofs.ring.judge_split.Statement.{statement}
 use Rattle.descriptors.proofs.ring.judge_split.Tie as tie
-use Rattle.descriptors.proofs.ring.judge_split.Reads as reads
-use Rattle.descriptors.proofs.ring.judge_split.Lts as lts
-use Rattle.descriptors.proofs.ring.are_records.Reads as are-records-reads
-use Rattle.descriptors.proofs.ring.sizes_ok.Reads as sizes-ok-reads
-use Rattle.descriptors.proofs.ring.starts_ok.Reads as starts-ok-reads
-use Rattle.descriptors.proofs.split.split_of.Reads as split-of-reads
 
 -- what is known once the split is accepted, and once the words hold records
 abbrev st : tie.After-known-told → List ℕ

@@ -1,21 +1,9 @@
 use Rattle.descriptors.specs.laws.Stores.{lay-in, lay-out}
-use borrow.Author.Tests.{eq-eqb, ne-eqb, lt-ltb, le-ltb, le-leb, lt-leb, not-true, not-false}
-use lib.ListN.{getD, length}
-use lib.Dec.{eqb, leb, ltb}
-use native.Mathlib.Omega.{arith}
-use mathlib.Core.Logic.{⊎-elim}
-use mathlib.Core.List.{List, []}
-use mathlib.Core.Bool.{Bool, true, false, cond, _&&_}
-use mathlib.Core.Path.{_≡_, sym, ap, _∙_, refl}
-use Prim.Native.Nat.{ℕ, suc, _+_, _-_, _*_, _≤_, _<_}
+use borrow.Author.Tests.{not-true, not-false}
+use mathlib.Core.Path.{sym, _∙_}
 use borrow.Author.Needs.{needs}
 use Rattle.descriptors.proofs.ring.lay_size.Statement.{statement}
 use Rattle.descriptors.proofs.ring.lay_size.Tie as tie
-use Rattle.descriptors.proofs.ring.lay_size.Reads as reads
-use Rattle.descriptors.proofs.ring.lay_size.Lts as lts
-use Rattle.descriptors.proofs.cells.set_length.Reads as set-length-reads
-use Rattle.descriptors.proofs.cells.set_size.Reads as set-size-reads
-use Rattle.descriptors.proofs.walk.receives.Reads as receives-reads
 
 set-size-requires : tie.Need-set-size-requires
 set-size-requires c κs = search needs

@@ -1,22 +1,14 @@
 use Rattle.descriptors.specs.laws.Updates.{up-none, up-more}
 use Rattle.descriptors.specs.Stores.{layCells}
 use Rattle.descriptors.specs.Split.{sizeOf}
-use Rattle.descriptors.specs.Record.{limit, upTo}
-use lib.ListN.{getD, length}
-use lib.Dec.{eqb, leb, ltb}
+use Rattle.descriptors.specs.Record.{upTo}
+use lib.ListN.{length}
 use borrow.Author.Needs.{needs}
 use native.Mathlib.Omega.{arith}
-use mathlib.Core.Logic.{⊎-elim}
-use mathlib.Core.List.{List, []}
-use mathlib.Core.Bool.{Bool, true, false, cond, _&&_}
-use mathlib.Core.Path.{_≡_, sym, ap, _∙_, refl}
-use Prim.Native.Nat.{ℕ, suc, _+_, _-_, _*_, _≤_, _<_}
+use mathlib.Core.Path.{_≡_, sym, _∙_, refl}
+use Prim.Native.Nat.{_-_, _≤_}
 use Rattle.descriptors.proofs.ring.lay_sizes.Statement.{statement}
 use Rattle.descriptors.proofs.ring.lay_sizes.Tie as tie
-use Rattle.descriptors.proofs.ring.lay_sizes.Reads as reads
-use Rattle.descriptors.proofs.ring.lay_sizes.Lts as lts
-use Rattle.descriptors.proofs.ring.lay_size.Reads as lay-size-reads
-use Rattle.descriptors.proofs.ring.size_at.Reads as size-at-reads
 
 abbrev Inv-loop : tie.InvT-loop
 Inv-loop w₀ dir n len chunk rest i₀ w i =

@@ -2,21 +2,14 @@ use Rattle.descriptors.specs.laws.Splits.{next-start, start-small}
 use Rattle.descriptors.specs.laws.Updates.{up-none, up-more}
 use Rattle.descriptors.specs.Stores.{layStart}
 use Rattle.descriptors.specs.Split.{startOf}
-use Rattle.descriptors.specs.Record.{limit, upTo}
-use lib.ListN.{getD, length}
-use lib.Dec.{eqb, leb, ltb}
+use Rattle.descriptors.specs.Record.{upTo}
+use lib.ListN.{length}
 use borrow.Author.Needs.{needs}
 use native.Mathlib.Omega.{arith}
-use mathlib.Core.Logic.{⊎-elim}
-use mathlib.Core.List.{List, []}
-use mathlib.Core.Bool.{Bool, true, false, cond, _&&_}
-use mathlib.Core.Path.{_≡_, sym, ap, _∙_, refl}
-use Prim.Native.Nat.{ℕ, suc, _+_, _-_, _*_, _≤_, _<_}
+use mathlib.Core.Path.{_≡_, sym, _∙_, refl}
+use Prim.Native.Nat.{_-_, _*_, _≤_}
 use Rattle.descriptors.proofs.ring.lay_starts.Statement.{statement}
 use Rattle.descriptors.proofs.ring.lay_starts.Tie as tie
-use Rattle.descriptors.proofs.ring.lay_starts.Reads as reads
-use Rattle.descriptors.proofs.ring.lay_starts.Lts as lts
-use Rattle.descriptors.proofs.cells.set_buffer.Reads as set-buffer-reads
 
 abbrev Inv-loop : tie.InvT-loop
 Inv-loop s₀ n len chunk step start₀ i₀ s start i =

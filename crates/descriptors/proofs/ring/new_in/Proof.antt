@@ -3,26 +3,12 @@ use Rattle.descriptors.specs.laws.New.{new-refused, new-no-records, new-
 use Rattle.descriptors.specs.laws.Splits.{Known, parts-known}
 use Rattle.descriptors.specs.Ring.{splitDone}
 use Rattle.descriptors.specs.Split.{splitOf}
-use borrow.Author.Tests.{eq-eqb, ne-eqb, lt-ltb, le-ltb, le-leb, lt-leb, not-true, not-false}
-use lib.ListN.{getD, length}
-use lib.Dec.{eqb, leb, ltb}
+use borrow.Author.Tests.{not-true, not-false}
 use native.Mathlib.Omega.{arith}
-use mathlib.Core.Logic.{⊎-elim}
-use mathlib.Core.List.{List, []}
-use mathlib.Core.Bool.{Bool, true, false, cond, _&&_}
-use mathlib.Core.Path.{_≡_, sym, ap, _∙_, refl}
-use Prim.Native.Nat.{ℕ, suc, _+_, _-_, _*_, _≤_, _<_}
+use mathlib.Core.Path.{_≡_, sym, ap, _∙_}
 use borrow.Author.Needs.{needs}
 use Rattle.descriptors.proofs.ring.new_in.Statement.{statement}
 use Rattle.descriptors.proofs.ring.new_in.Tie as tie
-use Rattle.descriptors.proofs.ring.new_in.Reads as reads
-use Rattle.descriptors.proofs.ring.new_in.Lts as lts
-use Rattle.descriptors.proofs.ring.are_records.Reads as are-records-reads
-use Rattle.descriptors.proofs.ring.fresh.Reads as fresh-reads
-use Rattle.descriptors.proofs.ring.lay_sizes.Reads as lay-sizes-reads
-use Rattle.descriptors.proofs.ring.lay_starts.Reads as lay-starts-reads
-use Rattle.descriptors.proofs.ring.refused_by.Reads as refused-by-reads
-use Rattle.descriptors.proofs.split.split_of.Reads as split-of-reads
 
 -- what the split's answer tells
 told : (t : tie.After-known-told) → splitOf (t .before .before .before .before .before .before .args .n) (t .before .before .before .before .before .before .args .len)

@@ -1,17 +1,7 @@
-use borrow.Author.Tests.{eq-eqb, ne-eqb, lt-ltb, le-ltb, le-leb, lt-leb, not-true, not-false}
-use lib.ListN.{getD, length}
-use lib.Dec.{eqb, leb, ltb}
-use borrow.Author.Needs.{needs}
-use native.Mathlib.Omega.{arith}
-use mathlib.Core.Logic.{⊎-elim}
-use mathlib.Core.List.{List, []}
-use mathlib.Core.Bool.{Bool, true, false, cond, _&&_}
-use mathlib.Core.Path.{_≡_, sym, ap, _∙_, refl}
-use Prim.Native.Nat.{ℕ, suc, _+_, _-_, _*_, _≤_, _<_}
+use borrow.Author.Tests.{eq-eqb, ne-eqb, not-true, not-false}
+use mathlib.Core.Path.{sym}
 use Rattle.descriptors.proofs.ring.offset_in.Statement.{statement}
 use Rattle.descriptors.proofs.ring.offset_in.Tie as tie
-use Rattle.descriptors.proofs.ring.offset_in.Reads as reads
-use Rattle.descriptors.proofs.ring.offset_in.Lts as lts
 
 returns : tie.Need-returns
 returns c = sym (rw (eq-eqb _ _ (c .if1 .taken)))

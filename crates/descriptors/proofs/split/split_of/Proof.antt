@@ -1,11 +1,9 @@
 use Rattle.descriptors.specs.Split.{splitOf}
 use mathlib.Core.Path.{sym}
-use borrow.Author.Tests.{eq-eqb, ne-eqb, lt-ltb, le-ltb, le-leb, lt-leb, not-true, not-false}
+use borrow.Author.Tests.{eq-eqb, ne-eqb, lt-ltb, le-ltb, le-leb, lt-leb}
 use borrow.Author.Needs.{needs}
 use Rattle.descriptors.proofs.split.split_of.Statement.{statement}
 use Rattle.descriptors.proofs.split.split_of.Tie as tie
-use Rattle.descriptors.proofs.split.split_of.Reads as reads
-use Rattle.descriptors.proofs.split.split_of.Lts as lts
 
 returns : tie.Need-returns
 unfolding splitOf

@@ -2,15 +2,6 @@ use Rattle.descriptors.specs.Stores.{handCells}
 use borrow.Author.Needs.{needs}
 use Rattle.descriptors.proofs.walk.enqueue.Statement.{statement}
 use Rattle.descriptors.proofs.walk.enqueue.Tie as tie
-use Rattle.descriptors.proofs.walk.enqueue.Reads as reads
-use Rattle.descriptors.proofs.walk.enqueue.Lts as lts
-use Rattle.descriptors.proofs.cells.link_to.Reads as link-to-reads
-use Rattle.descriptors.proofs.cells.set_length.Reads as set-length-reads
-use Rattle.descriptors.proofs.cells.set_next.Reads as set-next-reads
-use Rattle.descriptors.proofs.cells.set_owner.Reads as set-owner-reads
-use Rattle.descriptors.proofs.cells.set_suc_eof.Reads as set-suc-eof-reads
-use Rattle.descriptors.proofs.cells.size_of.Reads as size-of-reads
-use Rattle.descriptors.proofs.place.before.Reads as before-reads
 
 size-of-requires : tie.Need-size-of-requires
 size-of-requires c κs = search needs

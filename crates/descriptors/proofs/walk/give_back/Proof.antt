@@ -2,14 +2,6 @@ use Rattle.descriptors.specs.Stores.{handCells}
 use borrow.Author.Needs.{needs}
 use Rattle.descriptors.proofs.walk.give_back.Statement.{statement}
 use Rattle.descriptors.proofs.walk.give_back.Tie as tie
-use Rattle.descriptors.proofs.walk.give_back.Reads as reads
-use Rattle.descriptors.proofs.walk.give_back.Lts as lts
-use Rattle.descriptors.proofs.cells.link_to.Reads as link-to-reads
-use Rattle.descriptors.proofs.cells.set_length.Reads as set-length-reads
-use Rattle.descriptors.proofs.cells.set_next.Reads as set-next-reads
-use Rattle.descriptors.proofs.cells.set_owner.Reads as set-owner-reads
-use Rattle.descriptors.proofs.cells.set_suc_eof.Reads as set-suc-eof-reads
-use Rattle.descriptors.proofs.place.before.Reads as before-reads
 
 set-owner-requires : tie.Need-set-owner-requires
 set-owner-requires c κs = search needs

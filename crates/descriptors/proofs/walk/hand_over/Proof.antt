@@ -1,22 +1,15 @@
+use borrow.Author.Tests.{le-leb, lt-leb}
 use Rattle.descriptors.specs.laws.Walks.{turns-none, turns-go}
-use Rattle.descriptors.specs.Stores.{handCells}
+use Rattle.descriptors.specs.Stores.{handCells, handAll}
 use Rattle.descriptors.specs.Place.{after, turns}
 use Rattle.descriptors.specs.Record.{blank}
-use lib.ListN.{getD, length}
-use lib.Dec.{eqb, leb, ltb}
+use lib.ListN.{length}
 use borrow.Author.Needs.{needs}
 use native.Mathlib.Omega.{arith}
-use mathlib.Core.Logic.{⊎-elim}
-use mathlib.Core.List.{List, []}
-use mathlib.Core.Bool.{Bool, true, false, cond, _&&_}
-use mathlib.Core.Path.{_≡_, sym, ap, _∙_, refl}
-use Prim.Native.Nat.{ℕ, suc, _+_, _-_, _*_, _≤_, _<_}
+use mathlib.Core.Path.{_≡_, sym, ap, _∙_}
+use Prim.Native.Nat.{ℕ}
 use Rattle.descriptors.proofs.walk.hand_over.Statement.{statement}
 use Rattle.descriptors.proofs.walk.hand_over.Tie as tie
-use Rattle.descriptors.proofs.walk.hand_over.Reads as reads
-use Rattle.descriptors.proofs.walk.hand_over.Lts as lts
-use Rattle.descriptors.proofs.place.after.Reads as after-reads
-use Rattle.descriptors.proofs.walk.hand_over_one.Reads as hand-over-one-reads
 
 abbrev Inv-loop : tie.InvT-loop
 Inv-loop w₀ dir n i g at₀ left₀ w at left =
@@ -24,6 +17,10 @@ Inv-loop w₀ dir n i g at₀ left₀ w at left =
 
 abbrev μ-loop : tie.MeasureT-loop
 μ-loop w₀ dir n i g at₀ left₀ w at left = left
+
+returns : tie.Need-returns Inv-loop μ-loop
+unfolding handAll
+returns c = sym (rw (lt-leb _ _ (c .if1 .taken)))
 
 loop-holds : tie.Need-loop-holds Inv-loop μ-loop
 loop-holds c = search needs
@@ -43,7 +40,7 @@ loop-less c = search needs
 loop-again : tie.Need-loop-again Inv-loop μ-loop
 loop-again c =
     let s = c .before .before .before .before .before .before in
-    let a = s .before .before .args in (
+    let a = s .before .before .before .args in (
       search needs,
       rw (c .after .ensures, c .before .before .before .hand-over-one .ensures)
           (sym (turns-go (a .dir) (λ i. blank) (a .n) (handCells (a .dir) (a .n)) (s .loop .left) (s .loop .at) (s .loop .w) (omega arith)) ∙ s .loop .inv .1),
@@ -52,12 +49,13 @@ loop-again c =
 same-length : tie.Need-same-length Inv-loop μ-loop
 same-length c = search needs
 
-returns : tie.Need-returns Inv-loop μ-loop
-returns c =
+returns-2 : tie.Need-returns-2 Inv-loop μ-loop
+unfolding handAll
+returns-2 c =
     let s = c .before in
-    let a = s .before .before .args in
+    let a = s .before .before .before .args in
     let z : s .loop .left ≡ 0 = omega arith in
-    sym (turns-none (a .dir) (λ i. blank) (a .n) (handCells (a .dir) (a .n)) (s .loop .at) (s .loop .w)) ∙ ap (λ (k : ℕ). turns (handCells (a .dir) (a .n)) (a .n) k (s .loop .at) (s .loop .w)) (sym z) ∙ s .loop .inv .1
+    rw (le-leb _ _ (s .before .if1 .left)) (sym (turns-none (a .dir) (λ i. blank) (a .n) (handCells (a .dir) (a .n)) (s .loop .at) (s .loop .w)) ∙ ap (λ (k : ℕ). turns (handCells (a .dir) (a .n)) (a .n) k (s .loop .at) (s .loop .w)) (sym z) ∙ s .loop .inv .1)
 
 pub hand-over-spec : {M : Type 1} → statement M
 hand-over-spec =
@@ -65,6 +63,7 @@ hand-over-spec =
     (tie.spec
     Inv-loop
     μ-loop
+    returns
     loop-holds
     hand-over-one-requires
     after-requires
@@ -72,4 +71,4 @@ hand-over-spec =
     loop-less
     loop-again
     same-length
-    returns)
+    returns-2)

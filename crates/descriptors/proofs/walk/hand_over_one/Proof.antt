@@ -1,20 +1,9 @@
 use Rattle.descriptors.specs.Stores.{handCells}
 use Rattle.descriptors.specs.declared.record.TransferDirection.{TransferDirection}
-use lib.ListN.{getD, length}
-use lib.Dec.{eqb, leb, ltb}
-use native.Mathlib.Omega.{arith}
-use mathlib.Core.Logic.{⊎-elim}
-use mathlib.Core.List.{List, []}
-use mathlib.Core.Bool.{Bool, true, false, cond, _&&_}
-use mathlib.Core.Path.{_≡_, sym, ap, _∙_, refl}
-use Prim.Native.Nat.{ℕ, suc, _+_, _-_, _*_, _≤_, _<_}
+use mathlib.Core.Path.{sym, ap, _∙_}
 use borrow.Author.Needs.{needs}
 use Rattle.descriptors.proofs.walk.hand_over_one.Statement.{statement}
 use Rattle.descriptors.proofs.walk.hand_over_one.Tie as tie
-use Rattle.descriptors.proofs.walk.hand_over_one.Reads as reads
-use Rattle.descriptors.proofs.walk.hand_over_one.Lts as lts
-use Rattle.descriptors.proofs.walk.enqueue.Reads as enqueue-reads
-use Rattle.descriptors.proofs.walk.give_back.Reads as give-back-reads
 
 enum-told : tie.Need-enum-told
 enum-told c = search needs

@@ -2,12 +2,6 @@ use Rattle.descriptors.specs.Stores.{linkCells}
 use borrow.Author.Needs.{needs}
 use Rattle.descriptors.proofs.walk.link_in.Statement.{statement}
 use Rattle.descriptors.proofs.walk.link_in.Tie as tie
-use Rattle.descriptors.proofs.walk.link_in.Reads as reads
-use Rattle.descriptors.proofs.walk.link_in.Lts as lts
-use Rattle.descriptors.proofs.cells.set_length.Reads as set-length-reads
-use Rattle.descriptors.proofs.cells.set_owner.Reads as set-owner-reads
-use Rattle.descriptors.proofs.cells.set_suc_eof.Reads as set-suc-eof-reads
-use Rattle.descriptors.proofs.walk.set_following.Reads as set-following-reads
 
 set-following-requires : tie.Need-set-following-requires
 set-following-requires c κs = search needs

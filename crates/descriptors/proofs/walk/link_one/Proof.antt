@@ -1,20 +1,9 @@
 use Rattle.descriptors.specs.Stores.{linkCells}
 use Rattle.descriptors.specs.declared.record.TransferDirection.{TransferDirection}
-use lib.ListN.{getD, length}
-use lib.Dec.{eqb, leb, ltb}
-use native.Mathlib.Omega.{arith}
-use mathlib.Core.Logic.{⊎-elim}
-use mathlib.Core.List.{List, []}
-use mathlib.Core.Bool.{Bool, true, false, cond, _&&_}
-use mathlib.Core.Path.{_≡_, sym, ap, _∙_, refl}
-use Prim.Native.Nat.{ℕ, suc, _+_, _-_, _*_, _≤_, _<_}
+use mathlib.Core.Path.{sym, ap, _∙_}
 use borrow.Author.Needs.{needs}
 use Rattle.descriptors.proofs.walk.link_one.Statement.{statement}
 use Rattle.descriptors.proofs.walk.link_one.Tie as tie
-use Rattle.descriptors.proofs.walk.link_one.Reads as reads
-use Rattle.descriptors.proofs.walk.link_one.Lts as lts
-use Rattle.descriptors.proofs.walk.link_in.Reads as link-in-reads
-use Rattle.descriptors.proofs.walk.link_out.Reads as link-out-reads
 
 enum-told : tie.Need-enum-told
 enum-told c = search needs

@@ -2,25 +2,15 @@ use Rattle.descriptors.specs.laws.Walks.{run-none, run-stop, run-go}
 use Rattle.descriptors.specs.Walk.{runBytes}
 use Rattle.descriptors.specs.Cells.{recordAt}
 use Rattle.descriptors.specs.Place.{after}
-use Rattle.descriptors.specs.Record.{limit, isCpu, spanOf}
-use borrow.Author.Tests.{eq-eqb, ne-eqb, lt-ltb, le-ltb, le-leb, lt-leb, not-true, not-false}
-use lib.ListN.{getD, length}
-use lib.Dec.{eqb, leb, ltb}
+use Rattle.descriptors.specs.Record.{isCpu}
+use borrow.Author.Tests.{le-leb, lt-leb, not-true, not-false}
 use borrow.Author.Needs.{needs}
 use native.Mathlib.Omega.{arith}
-use mathlib.Core.Logic.{⊎-elim}
-use mathlib.Core.List.{List, []}
-use mathlib.Core.Bool.{Bool, true, false, cond, _&&_}
-use mathlib.Core.Path.{_≡_, sym, ap, _∙_, refl}
-use Prim.Native.Nat.{ℕ, suc, _+_, _-_, _*_, _≤_, _<_}
+use mathlib.Core.List.{[]}
+use mathlib.Core.Path.{_≡_, sym, ap, _∙_}
+use Prim.Native.Nat.{ℕ, _+_, _-_, _*_, _≤_}
 use Rattle.descriptors.proofs.walk.run_bytes.Statement.{statement}
 use Rattle.descriptors.proofs.walk.run_bytes.Tie as tie
-use Rattle.descriptors.proofs.walk.run_bytes.Reads as reads
-use Rattle.descriptors.proofs.walk.run_bytes.Lts as lts
-use Rattle.descriptors.proofs.cells.is_cpu.Reads as is-cpu-reads
-use Rattle.descriptors.proofs.cells.owner_of.Reads as owner-of-reads
-use Rattle.descriptors.proofs.place.after.Reads as after-reads
-use Rattle.descriptors.proofs.walk.span.Reads as span-reads
 
 abbrev Inv-loop : tie.InvT-loop
 Inv-loop w dir n i total₀ at₀ left₀ total at left =

@@ -1,20 +1,7 @@
-use Rattle.descriptors.specs.Cells.{putNext}
-use borrow.Author.Tests.{eq-eqb, ne-eqb, lt-ltb, le-ltb, le-leb, lt-leb, not-true, not-false}
-use lib.ListN.{getD, length}
-use lib.Dec.{eqb, leb, ltb}
-use native.Mathlib.Omega.{arith}
-use mathlib.Core.Logic.{⊎-elim}
-use mathlib.Core.List.{List, []}
-use mathlib.Core.Bool.{Bool, true, false, cond, _&&_}
-use mathlib.Core.Path.{_≡_, sym, ap, _∙_, refl}
-use Prim.Native.Nat.{ℕ, suc, _+_, _-_, _*_, _≤_, _<_}
+use borrow.Author.Tests.{eq-eqb, ne-eqb}
 use borrow.Author.Needs.{needs}
 use Rattle.descriptors.proofs.walk.set_following.Statement.{statement}
 use Rattle.descriptors.proofs.walk.set_following.Tie as tie
-use Rattle.descriptors.proofs.walk.set_following.Reads as reads
-use Rattle.descriptors.proofs.walk.set_following.Lts as lts
-use Rattle.descriptors.proofs.cells.link_to.Reads as link-to-reads
-use Rattle.descriptors.proofs.cells.set_next.Reads as set-next-reads
 
 add-if1 : tie.Need-add-if1
 add-if1 c = search needs

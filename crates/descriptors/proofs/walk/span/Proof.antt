@@ -1,21 +1,11 @@
 use Rattle.descriptors.specs.Cells.{recordAt}
 use Rattle.descriptors.specs.Record.{spanOf}
 use Rattle.descriptors.specs.declared.record.TransferDirection.{TransferDirection}
-use lib.ListN.{getD, length}
-use lib.Dec.{eqb, leb, ltb}
-use native.Mathlib.Omega.{arith}
-use mathlib.Core.Logic.{⊎-elim}
-use mathlib.Core.List.{List, []}
-use mathlib.Core.Bool.{Bool, true, false, cond, _&&_}
-use mathlib.Core.Path.{_≡_, sym, ap, _∙_, refl}
-use Prim.Native.Nat.{ℕ, suc, _+_, _-_, _*_, _≤_, _<_}
+use mathlib.Core.List.{[]}
+use mathlib.Core.Path.{sym, ap, _∙_}
 use borrow.Author.Needs.{needs}
 use Rattle.descriptors.proofs.walk.span.Statement.{statement}
 use Rattle.descriptors.proofs.walk.span.Tie as tie
-use Rattle.descriptors.proofs.walk.span.Reads as reads
-use Rattle.descriptors.proofs.walk.span.Lts as lts
-use Rattle.descriptors.proofs.cells.length_of.Reads as length-of-reads
-use Rattle.descriptors.proofs.cells.size_of.Reads as size-of-reads
 
 enum-told : tie.Need-enum-told
 enum-told c = search needs

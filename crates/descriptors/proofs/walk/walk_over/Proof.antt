@@ -1,28 +1,17 @@
 use Rattle.descriptors.specs.declared.walk.Moved.{Moved}
-use Rattle.descriptors.specs.laws.Walks.{walk-none, walk-stop, walk-part, walk-go}
-use Rattle.descriptors.specs.Walk.{walk, past, inside}
+use Rattle.descriptors.specs.laws.Walks.{walk-none, walk-stop, walk-part, walk-go, walk-in, walk-out}
+use Rattle.descriptors.specs.Walk.{walk, walkIn}
 use Rattle.descriptors.specs.Cells.{recordAt}
 use Rattle.descriptors.specs.Place.{after}
-use Rattle.descriptors.specs.Record.{limit, isCpu, spanOf}
-use borrow.Author.Tests.{eq-eqb, ne-eqb, lt-ltb, le-ltb, le-leb, lt-leb, not-true, not-false}
-use lib.ListN.{getD, length}
-use lib.Dec.{eqb, leb, ltb}
+use Rattle.descriptors.specs.Record.{isCpu, spanOf}
+use borrow.Author.Tests.{not-true, not-false}
 use borrow.Author.Needs.{needs}
 use native.Mathlib.Omega.{arith}
-use mathlib.Core.Logic.{⊎-elim}
-use mathlib.Core.List.{List, []}
-use mathlib.Core.Bool.{Bool, true, false, cond, _&&_}
-use mathlib.Core.Path.{_≡_, sym, ap, _∙_, refl}
-use Prim.Native.Nat.{ℕ, suc, _+_, _-_, _*_, _≤_, _<_}
+use mathlib.Core.List.{[]}
+use mathlib.Core.Path.{_≡_, sym, ap, _∙_}
+use Prim.Native.Nat.{ℕ, _-_, _≤_}
 use Rattle.descriptors.proofs.walk.walk_over.Statement.{statement}
 use Rattle.descriptors.proofs.walk.walk_over.Tie as tie
-use Rattle.descriptors.proofs.walk.walk_over.Reads as reads
-use Rattle.descriptors.proofs.walk.walk_over.Lts as lts
-use Rattle.descriptors.proofs.cells.is_cpu.Reads as is-cpu-reads
-use Rattle.descriptors.proofs.cells.owner_of.Reads as owner-of-reads
-use Rattle.descriptors.proofs.place.after.Reads as after-reads
-use Rattle.descriptors.proofs.walk.less.Reads as less-reads
-use Rattle.descriptors.proofs.walk.span.Reads as span-reads
 
 abbrev Inv-loop : tie.InvT-loop
 Inv-loop w dir n i o k at₀ offset₀ rest₀ back₀ left₀ at offset rest back left =
@@ -35,14 +24,24 @@ abbrev μ-loop : tie.MeasureT-loop
 abbrev stand : tie.At-loop Inv-loop μ-loop → Moved
 stand s = record { at = s .loop .at; offset = s .loop .offset; rest = s .loop .rest; back = s .loop .back }
 
+-- the walk of the loop is that of a whole ring
+whole : (s : tie.At-loop Inv-loop μ-loop) → let a = s .before .before .before .args in
+    walk (a .dir) (recordAt [] (a .w .now)) (a .n) (a .n) (record { at = a .i; offset = a .o; rest = a .k; back = 0 }) ≡ walkIn (a .dir) (recordAt [] (a .w .now)) (a .n) (record { at = a .i; offset = a .o; rest = a .k; back = 0 })
+whole s = let a = s .before .before .before .args in sym (walk-in (a .dir) (recordAt [] (a .w .now)) (a .n) _ (s .before .if1 .left))
+
 -- whether the record at the place is the CPU's, and what it still counts for
-owned : (c : tie.After-is-cpu Inv-loop μ-loop) → isCpu (recordAt [] (c .before .before .before .before .before .args .w .now) (c .before .before .before .loop .at) .owner) ≡ c .is-cpu .result
+owned : (c : tie.After-is-cpu Inv-loop μ-loop) → isCpu (recordAt [] (c .before .before .before .before .before .before .args .w .now) (c .before .before .before .loop .at) .owner) ≡ c .is-cpu .result
 owned c = ap isCpu (sym (c .before .owner-of .ensures)) ∙ sym (c .is-cpu .ensures)
 
 stands : (c : tie.After-less Inv-loop μ-loop)
     → let s = c .before .before .before .before .before .before in
-    c .less .result ≡ spanOf (s .before .before .args .dir) (recordAt [] (s .before .before .args .w .now) (s .loop .at)) - s .loop .offset
+    c .less .result ≡ spanOf (s .before .before .before .args .dir) (recordAt [] (s .before .before .before .args .w .now) (s .loop .at)) - s .loop .offset
 stands c = c .less .ensures ∙ ap (λ (k : ℕ). k - c .before .before .before .before .before .before .loop .offset) (c .before .span .ensures .0)
+
+returns : tie.Need-returns Inv-loop μ-loop
+returns c =
+    let a = c .before .before .args in
+    sym (walk-out (a .dir) (recordAt [] (a .w .now)) (a .n) _ (c .if1 .taken))
 
 loop-holds : tie.Need-loop-holds Inv-loop μ-loop
 loop-holds c = search needs
@@ -53,11 +52,11 @@ owner-of-requires c κs = search needs
 is-cpu-requires : tie.Need-is-cpu-requires Inv-loop μ-loop
 is-cpu-requires c κs = search needs
 
-returns : tie.Need-returns Inv-loop μ-loop
-returns c =
+returns-2 : tie.Need-returns-2 Inv-loop μ-loop
+returns-2 c =
     let s = c .before .before .before .before in
-    let a = s .before .before .args in
-    sym (walk-stop (a .dir) (recordAt [] (a .w .now)) (a .n) (s .loop .left) (stand s) (owned (c .before) ∙ not-true _ (c .if1 .taken))) ∙ s .loop .inv .2
+    let a = s .before .before .before .args in
+    sym (walk-stop (a .dir) (recordAt [] (a .w .now)) (a .n) (s .loop .left) (stand s) (owned (c .before) ∙ not-true _ (c .if2 .taken))) ∙ s .loop .inv .2 ∙ whole s
 
 span-requires : tie.Need-span-requires Inv-loop μ-loop
 span-requires c κs = search needs
@@ -65,15 +64,15 @@ span-requires c κs = search needs
 less-requires : tie.Need-less-requires Inv-loop μ-loop
 less-requires c κs = search needs
 
-add-t17 : tie.Need-add-t17 Inv-loop μ-loop
-add-t17 c = search needs
+add-t18 : tie.Need-add-t18 Inv-loop μ-loop
+add-t18 c = search needs
 
-returns-2 : tie.Need-returns-2 Inv-loop μ-loop
-returns-2 c =
+returns-3 : tie.Need-returns-3 Inv-loop μ-loop
+returns-3 c =
     let s = c .before .before .before .before .before .before .before in
-    let a = s .before .before .args in
-    sym (walk-part (a .dir) (recordAt [] (a .w .now)) (a .n) (s .loop .left) (stand s) (omega arith) (owned (c .before .before .before .before) ∙ not-false _ (c .before .before .before .if1 .left))
-    (omega (arith, c .if2 .taken, stands (c .before)))) ∙ s .loop .inv .2
+    let a = s .before .before .before .args in
+    sym (walk-part (a .dir) (recordAt [] (a .w .now)) (a .n) (s .loop .left) (stand s) (omega arith) (owned (c .before .before .before .before) ∙ not-false _ (c .before .before .before .if2 .left))
+    (omega (arith, c .if3 .taken, stands (c .before)))) ∙ s .loop .inv .2 ∙ whole s
 
 after-requires : tie.Need-after-requires Inv-loop μ-loop
 after-requires c κs = search needs
@@ -90,17 +89,17 @@ loop-less c = search needs
 loop-again : tie.Need-loop-again Inv-loop μ-loop
 loop-again c =
     let s = c .before .before .before .before .before .before .before .before in
-    let a = s .before .before .args in
-    let g = walk-go (a .dir) (recordAt [] (a .w .now)) (a .n) (s .loop .left) (stand s) (omega arith) (owned (c .before .before .before .before .before) ∙ not-false _ (c .before .before .before .before .if1 .left))
-    (omega (arith, c .before .if2 .left, stands (c .before .before))) in
+    let a = s .before .before .before .args in
+    let g = walk-go (a .dir) (recordAt [] (a .w .now)) (a .n) (s .loop .left) (stand s) (omega arith) (owned (c .before .before .before .before .before) ∙ not-false _ (c .before .before .before .before .if2 .left))
+    (omega (arith, c .before .if3 .left, stands (c .before .before))) in
     (omega arith, omega arith, rw (c .after .ensures, stands (c .before .before)) (sym g ∙ s .loop .inv .2))
 
-returns-3 : tie.Need-returns-3 Inv-loop μ-loop
-returns-3 c =
+returns-4 : tie.Need-returns-4 Inv-loop μ-loop
+returns-4 c =
     let s = c .before in
-    let a = s .before .before .args in
+    let a = s .before .before .before .args in
     let z : s .loop .left ≡ 0 = omega arith in
-    sym (walk-none (a .dir) (recordAt [] (a .w .now)) (a .n) (stand s)) ∙ ap (λ (k : ℕ). walk (a .dir) (recordAt [] (a .w .now)) (a .n) k (stand s)) (sym z) ∙ s .loop .inv .2
+    sym (walk-none (a .dir) (recordAt [] (a .w .now)) (a .n) (stand s)) ∙ ap (λ (k : ℕ). walk (a .dir) (recordAt [] (a .w .now)) (a .n) k (stand s)) (sym z) ∙ s .loop .inv .2 ∙ whole s
 
 pub walk-over-spec : {M : Type 1} → statement M
 walk-over-spec =
@@ -108,17 +107,18 @@ walk-over-spec =
     (tie.spec
     Inv-loop
     μ-loop
+    returns
     loop-holds
     owner-of-requires
     is-cpu-requires
-    returns
+    returns-2
     span-requires
     less-requires
-    add-t17
-    returns-2
+    add-t18
+    returns-3
     after-requires
     add-back
     sub-left
     loop-less
     loop-again
-    returns-3)
+    returns-4)

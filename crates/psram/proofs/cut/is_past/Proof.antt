@@ -1,6 +1,6 @@
-use Prim.Native.Nat.{_+_, _-_}
+use Prim.Native.Nat.{_+_}
 use Rattle.psram.specs.laws.Parts.{past-test}
-use Rattle.psram.specs.Cut.{top}
+use Rattle.descriptors.specs.Record.{top}
 use Prim.Native.Nat.{_+_}
 use native.Mathlib.Omega.{arith}
 use mathlib.Core.Path.{sym}

@@ -1,7 +1,7 @@
 use lib.ListN.{length}
 use Rattle.psram.specs.declared.held.Held.{Held}
 use Rattle.psram.specs.laws.Pieces.{Within, within, span}
-use Prim.Native.Nat.{_+_, _-_, _≤_}
+use Prim.Native.Nat.{_+_, _≤_}
 use native.Mathlib.Omega.{arith}
 use mathlib.Core.Path.{sym, _∙_, subst}
 use borrow.Author.Needs.{needs}
@@ -72,15 +72,17 @@ part-result-end-3 c = search needs
 returns : tie.Need-returns
 returns c =
     let q = c .before .before .start .given in
-    simp (sym (c .before .before .before .before .numbered .ensures) ∙ q .1, span (q .0 .0) (q .0 .1 .0))
+    let e = sym (c .before .before .before .before .numbered .ensures) ∙ q .1 in
+    (simp (e, span (q .0 .0) (q .0 .1 .0)), simp e)
 
 returns-2 : tie.Need-returns-2
 returns-2 c =
     let q = c .before .before .start2 .given in
-    simp (sym (c .before .before .before .before .numbered .ensures) ∙ q .1, span (q .0 .0) (q .0 .1 .0))
+    let e = sym (c .before .before .before .before .numbered .ensures) ∙ q .1 in
+    (simp (e, span (q .0 .0) (q .0 .1 .0)), simp e)
 
 returns-3 : tie.Need-returns-3
-returns-3 c = simp (sym (c .before .before .before .numbered .ensures) ∙ c .before .enum-told .given .1)
+returns-3 c = let e = sym (c .before .before .before .numbered .ensures) ∙ c .before .enum-told .given .1 in (simp e, simp e)
 
 pub piece-spec : {M : Type 1} → statement M
 piece-spec =

@@ -1,9 +1,10 @@
-use Rattle.rx_stream.specs.laws.Answers.{peek-refused, peek-done}
+use Rattle.rx_stream.specs.laws.Answers.{peek-refused, peek-done, place-refused, place-done}
 use Rattle.rx_stream.specs.laws.Parts.{part, part-length}
 use Rattle.rx_stream.specs.laws.Takes.{unsound, known, held}
 use Rattle.rx_stream.specs.laws.Flats.{flat-like, cells-like}
 use Rattle.rx_stream.specs.Receive.{flatBytes}
 use Rattle.descriptors.specs.declared.record.DmaDescriptor.{DmaDescriptor}
+use Rattle.descriptors.specs.Part.{partFrom}
 use Rattle.descriptors.specs.laws.Sound.{ready-split}
 use Rattle.descriptors.specs.laws.Lifts.{record-is}
 use Rattle.descriptors.specs.Ring.{ringOf, sound, recordOf}
@@ -60,7 +61,9 @@ part-result-end c = search needs
 returns : tie.Need-returns
 returns c =
     let a = c .before .before .before .before .before .before .before .args in
-    sym (peek-refused (ringOf (a .s .now) (a .w .now) (a .h)) (a .buffer .now) (a .until-eof) (unsound _ (c .before .before .before .judge .ensures) (c .before .enum-told2 .given .1)))
+    let r = ringOf (a .s .now) (a .w .now) (a .h) in
+    let u = unsound _ (c .before .before .before .judge .ensures) (c .before .enum-told2 .given .1) in
+    (sym (peek-refused r (a .buffer .now) (a .until-eof) u), ap (partFrom (a .buffer)) (sym (place-refused r (a .buffer .now) u)))
 
 flat-bytes-requires : tie.Need-flat-bytes-requires
 flat-bytes-requires c κs = search needs
@@ -111,7 +114,10 @@ returns-2 c =
     let s = c .before .before .before .before in
     let a = s .before .before .before .before .before .before .args in
     let p = part (a .until-eof) (ringOf (a .s .now) (a .w .now) (a .h)) (length (a .buffer .now)) (known (a .s .now) (a .w .now) (a .h) (length (a .buffer .now)) (passed s)) in
-    rw (peek-done (ringOf (a .s .now) (a .w .now) (a .h)) (a .buffer .now) (a .until-eof) (passed s)) (simp (starts (c .before .before), flats (c .before .before .before), part-length))
+    let r = ringOf (a .s .now) (a .w .now) (a .h) in (
+      rw (peek-done r (a .buffer .now) (a .until-eof) (passed s)) (simp (starts (c .before .before), flats (c .before .before .before), part-length)),
+      ap (partFrom (a .buffer)) (rw (place-done r (a .buffer .now) (passed s)) (simp (starts (c .before .before)))),
+    )
 
 pub part-in-spec : {M : Type 1} → statement M
 part-in-spec =

@@ -1,11 +1,12 @@
 use Rattle.rx_stream.specs.laws.Answers.{peek-eof-refused, peek-eof-done}
-use Rattle.rx_stream.specs.laws.Takes.{unsound, held}
+use Rattle.rx_stream.specs.laws.Takes.{unsound, known, held}
 use Rattle.rx_stream.specs.laws.Flats.{eof-like, cells-like}
 use Rattle.rx_stream.specs.declared.Ended.the-variants.{Eof}
 use Rattle.descriptors.specs.laws.Sound.{ready-split}
 use Rattle.descriptors.specs.Ring.{ringOf, sound}
 use Rattle.descriptors.specs.Cells.{recordsOf, recordAt}
-use Rattle.descriptors.specs.Record.{recordIn}
+use Rattle.descriptors.specs.Record.{limit, recordIn}
+use borrow.Author.Tests.{le-leb}
 use Rattle.descriptors.specs.declared.record.TransferDirection.the-variants.{In}
 use mathlib.Core.List.{[]}
 use mathlib.Core.Bool.{Bool, true}
@@ -40,7 +41,7 @@ returns-2 c =
     let s = c .before in
     let a = s .before .before .before .before .before .args in
     ap (λ (b : Bool). Eof b)
-    (c .flat-eof .ensures ∙ eof-like (recordAt [] (a .w .now)) (recordIn (recordsOf (a .s .now) (a .w .now))) (cells-like (a .s .now) (a .w .now) (held (a .s .now) (a .w .now) (a .h) (a .len) (passed s))) (a .h .count - a .h .«descriptor_idx») (a .h .«descriptor_idx»))
+    (c .flat-eof .ensures ∙ rw (le-leb (a .h .count) limit (known (a .s .now) (a .w .now) (a .h) (a .len) (passed s) .split .parts .many)) (eof-like (recordAt [] (a .w .now)) (recordIn (recordsOf (a .s .now) (a .w .now))) (cells-like (a .s .now) (a .w .now) (held (a .s .now) (a .w .now) (a .h) (a .len) (passed s))) (a .h .count - a .h .«descriptor_idx») (a .h .«descriptor_idx»)))
     ∙ sym (peek-eof-done (ringOf (a .s .now) (a .w .now) (a .h)) (a .len) (passed s))
 
 pub peek-eof-in-spec : {M : Type 1} → statement M

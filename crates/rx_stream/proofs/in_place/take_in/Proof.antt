@@ -2,10 +2,9 @@ use Rattle.rx_stream.specs.laws.Takes.{tally-wraps}
 use Rattle.rx_stream.specs.Faces.{stepIn, takenBy}
 use Rattle.descriptors.specs.declared.walk.Moved.{Moved}
 use Rattle.descriptors.specs.declared.record.TransferDirection.the-variants.{In}
-use Rattle.descriptors.specs.laws.Walks.{walk-rest}
-use Rattle.descriptors.specs.Stores.{handCells}
+use Rattle.descriptors.specs.laws.Walks.{walk-in-rest}
+use Rattle.descriptors.specs.Stores.{handAll}
 use Rattle.descriptors.specs.Cells.{recordAt}
-use Rattle.descriptors.specs.Place.{turns}
 use native.Mathlib.Omega.{arith}
 use mathlib.Core.List.{[]}
 use Prim.Native.Nat.{_≤_}
@@ -18,7 +17,7 @@ use Rattle.rx_stream.proofs.in_place.take_in.Tie as tie
 rests : (c : tie.After-walk-over) → c .walk-over .result .rest ≤ c .before .before .before .args .k
 rests c =
     let a = c .before .before .before .args in
-    rw (c .walk-over .ensures) (walk-rest In (recordAt [] (a .w .now)) (a .h .count) (a .h .count) (record { at = a .h .«descriptor_idx»; offset = a .h .«descriptor_offset»; rest = a .k; back = 0 }))
+    rw (c .walk-over .ensures) (walk-in-rest In (recordAt [] (a .w .now)) (a .h .count) (record { at = a .h .«descriptor_idx»; offset = a .h .«descriptor_offset»; rest = a .k; back = 0 }))
 
 walk-over-requires : tie.Need-walk-over-requires
 walk-over-requires c κs = search needs
@@ -43,7 +42,7 @@ unfolding stepIn
 returns c =
     let m = c .before .before .before .before .before .before in
     let a = m .before .before .before .args in (
-      c .before .before .before .before .hand-over .ensures ∙ ap (λ (x : Moved). turns (handCells In (a .h .count)) (a .h .count) (x .back) (a .h .«descriptor_idx») (a .w .now)) (m .walk-over .ensures),
+      c .before .before .before .before .hand-over .ensures ∙ ap (λ (x : Moved). handAll In (a .h .count) (x .back) (a .h .«descriptor_idx») (a .w .now)) (m .walk-over .ensures),
       simp (c .wrapping-add-u32 .ensures, tally-wraps) (ap (takenBy (a .h) (a .k)) (m .walk-over .ensures)),
     )
 

@@ -1,29 +1,17 @@
 use Rattle.tx_stream.specs.laws.Rules.{tally-wraps}
-use Rattle.tx_stream.specs.Faces.{walked, filledCells, filledHead}
-use Rattle.descriptors.specs.laws.Walks.{walk-rest}
-use Rattle.descriptors.specs.Stores.{handCells}
-use Rattle.descriptors.specs.Place.{turns}
+use Rattle.tx_stream.specs.Faces.{filledCells, filledHead}
+use Rattle.descriptors.specs.laws.Walks.{walk-in-rest}
+use Rattle.descriptors.specs.Stores.{handAll}
 use Rattle.descriptors.specs.Cells.{recordAt}
-use Rattle.descriptors.specs.declared.ring.Head.{Head}
 use Rattle.descriptors.specs.declared.walk.Moved.{Moved}
 use Rattle.descriptors.specs.declared.record.TransferDirection.the-variants.{Out}
 use Prim.Native.Nat.{_%_, _^_}
-use lib.ListN.{getD, length}
-use lib.Dec.{eqb, leb, ltb}
-use native.Mathlib.Omega.{arith}
-use mathlib.Core.Logic.{⊎-elim}
-use mathlib.Core.List.{List, []}
-use mathlib.Core.Bool.{Bool, true, false, cond, _&&_}
-use mathlib.Core.Path.{_≡_, sym, ap, _∙_, refl}
-use Prim.Native.Nat.{ℕ, suc, _+_, _-_, _*_, _≤_, _<_}
+use mathlib.Core.List.{[]}
+use mathlib.Core.Path.{ap, _∙_}
+use Prim.Native.Nat.{ℕ, _+_, _-_}
 use borrow.Author.Needs.{needs}
 use Rattle.tx_stream.proofs.accept.accept_in.Statement.{statement}
 use Rattle.tx_stream.proofs.accept.accept_in.Tie as tie
-use Rattle.tx_stream.proofs.accept.accept_in.Reads as reads
-use Rattle.tx_stream.proofs.accept.accept_in.Lts as lts
-use Rattle.descriptors.proofs.walk.hand_over.Reads as hand-over-reads
-use Rattle.descriptors.proofs.walk.walk_over.Reads as walk-over-reads
-use Rattle.std.proofs.num.wrapping_add_u32.Reads as wrapping-add-u32-reads
 
 walk-over-requires : tie.Need-walk-over-requires
 walk-over-requires c κs = search needs
@@ -35,7 +23,7 @@ sub-accepted : tie.Need-sub-accepted
 sub-accepted c =
     let m = c .before .before .before .before .before in
     let a = m .before .before .before .args in
-    rw (ap (λ (w : Moved). w .rest) (m .walk-over .ensures)) (walk-rest Out (recordAt [] (a .w .now)) (a .h .count) (a .h .count) _)
+    rw (ap (λ (w : Moved). w .rest) (m .walk-over .ensures)) (walk-in-rest Out (recordAt [] (a .w .now)) (a .h .count) _)
 
 cast-wrapping-add-u32 : tie.Need-cast-wrapping-add-u32
 cast-wrapping-add-u32 c = search needs
@@ -53,7 +41,7 @@ returns c =
     let a = m .before .before .before .args in
     let n : ℕ = a .h .count in
     let i : ℕ = a .h .«descriptor_idx» in (
-      c .before .before .before .before .hand-over .ensures ∙ ap (λ (x : Moved). turns (handCells Out n) n (x .back) i (a .w .now)) (m .walk-over .ensures),
+      c .before .before .before .before .hand-over .ensures ∙ ap (λ (x : Moved). handAll Out n (x .back) i (a .w .now)) (m .walk-over .ensures),
       rw (c .wrapping-add-u32 .ensures ∙ tally-wraps (a .h .tally) (a .k - m .walk-over .result .rest))
           (ap (λ (x : Moved). record { count = n; «descriptor_idx» = x .at; «descriptor_offset» = x .offset; tally = (a .h .tally + (a .k - x .rest)) % 2 ^ 32; «pre_filled» = a .h .«pre_filled» }) (m .walk-over .ensures)),
     )

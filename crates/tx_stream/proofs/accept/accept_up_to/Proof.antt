@@ -1,22 +1,10 @@
-use Rattle.tx_stream.specs.Faces.{filledCells, filledHead}
 use Rattle.descriptors.specs.declared.refusal.Counted.the-variants as counted
 use Rattle.descriptors.specs.declared.ring.Head.{Head}
-use borrow.Author.Tests.{eq-eqb, ne-eqb, lt-ltb, le-ltb, le-leb, lt-leb, not-true, not-false}
-use lib.ListN.{getD, length}
-use lib.Dec.{eqb, leb, ltb}
-use native.Mathlib.Omega.{arith}
-use mathlib.Core.Logic.{⊎-elim}
-use mathlib.Core.List.{List, []}
-use mathlib.Core.Bool.{Bool, true, false, cond, _&&_}
-use mathlib.Core.Path.{_≡_, sym, ap, _∙_, refl}
-use Prim.Native.Nat.{ℕ, suc, _+_, _-_, _*_, _≤_, _<_}
+use borrow.Author.Tests.{le-leb, lt-leb}
+use mathlib.Core.Path.{ap, refl}
 use borrow.Author.Needs.{needs}
 use Rattle.tx_stream.proofs.accept.accept_up_to.Statement.{statement}
 use Rattle.tx_stream.proofs.accept.accept_up_to.Tie as tie
-use Rattle.tx_stream.proofs.accept.accept_up_to.Reads as reads
-use Rattle.tx_stream.proofs.accept.accept_up_to.Lts as lts
-use Rattle.tx_stream.proofs.accept.accept_in.Reads as accept-in-reads
-use Rattle.tx_stream.proofs.answer.too_much.Reads as too-much-reads
 
 too-much-requires : tie.Need-too-much-requires
 too-much-requires c κs = search needs

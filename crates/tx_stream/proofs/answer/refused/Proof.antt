@@ -1,19 +1,8 @@
-use Rattle.tx_stream.specs.Faces.{countedOf}
 use Rattle.descriptors.specs.declared.refusal.Counted.{Counted}
-use lib.ListN.{getD, length}
-use lib.Dec.{eqb, leb, ltb}
-use native.Mathlib.Omega.{arith}
-use mathlib.Core.Logic.{⊎-elim}
-use mathlib.Core.List.{List, []}
-use mathlib.Core.Bool.{Bool, true, false, cond, _&&_}
-use mathlib.Core.Path.{_≡_, sym, ap, _∙_, refl}
-use Prim.Native.Nat.{ℕ, suc, _+_, _-_, _*_, _≤_, _<_}
+use mathlib.Core.Path.{ap}
 use borrow.Author.Needs.{needs}
 use Rattle.tx_stream.proofs.answer.refused.Statement.{statement}
 use Rattle.tx_stream.proofs.answer.refused.Tie as tie
-use Rattle.tx_stream.proofs.answer.refused.Reads as reads
-use Rattle.tx_stream.proofs.answer.refused.Lts as lts
-use Rattle.tx_stream.proofs.answer.counted.Reads as counted-reads
 
 counted-requires : tie.Need-counted-requires
 counted-requires c κs = search needs

@@ -4,21 +4,14 @@ use Rattle.tx_stream.specs.laws.Pastes.{pasted-round}
 use lib.Seq.{paste, length-take-le}
 use lib.ListN.{take, drop}
 use lib.Seq.{length-take-le}
-use lib.ListN.{getD, length}
-use lib.Dec.{eqb, leb, ltb}
+use lib.ListN.{length}
 use native.Mathlib.Omega.{arith}
-use mathlib.Core.Logic.{⊎-elim}
-use mathlib.Core.List.{List, []}
-use mathlib.Core.Bool.{Bool, true, false, cond, _&&_}
-use mathlib.Core.Path.{_≡_, sym, ap, _∙_, refl}
-use Prim.Native.Nat.{ℕ, suc, _+_, _-_, _*_, _≤_, _<_}
+use mathlib.Core.List.{List}
+use mathlib.Core.Path.{sym, ap, _∙_}
+use Prim.Native.Nat.{ℕ, _-_}
 use borrow.Author.Needs.{needs}
 use Rattle.tx_stream.proofs.copy.copy_round.Statement.{statement}
 use Rattle.tx_stream.proofs.copy.copy_round.Tie as tie
-use Rattle.tx_stream.proofs.copy.copy_round.Reads as reads
-use Rattle.tx_stream.proofs.copy.copy_round.Lts as lts
-use Rattle.tx_stream.proofs.copy.copy_to.Reads as copy-to-reads
-use Rattle.tx_stream.proofs.copy.least.Reads as least-reads
 
 sub-least : tie.Need-sub-least
 sub-least c = search needs

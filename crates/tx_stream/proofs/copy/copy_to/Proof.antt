@@ -1,18 +1,7 @@
 use Rattle.tx_stream.specs.laws.Pastes.{part-pasted}
-use lib.ListN.{getD, length}
-use lib.Dec.{eqb, leb, ltb}
-use native.Mathlib.Omega.{arith}
-use mathlib.Core.Logic.{⊎-elim}
-use mathlib.Core.List.{List, []}
-use mathlib.Core.Bool.{Bool, true, false, cond, _&&_}
-use mathlib.Core.Path.{_≡_, sym, ap, _∙_, refl}
-use Prim.Native.Nat.{ℕ, suc, _+_, _-_, _*_, _≤_, _<_}
 use borrow.Author.Needs.{needs}
 use Rattle.tx_stream.proofs.copy.copy_to.Statement.{statement}
 use Rattle.tx_stream.proofs.copy.copy_to.Tie as tie
-use Rattle.tx_stream.proofs.copy.copy_to.Reads as reads
-use Rattle.tx_stream.proofs.copy.copy_to.Lts as lts
-use Rattle.bytes.proofs.copy.Reads as copy-reads
 
 sub-copy : tie.Need-sub-copy
 sub-copy c = search needs

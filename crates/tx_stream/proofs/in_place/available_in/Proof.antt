@@ -4,24 +4,15 @@ use Rattle.descriptors.specs.declared.refusal.Counted.the-variants as counted
 use Rattle.descriptors.specs.declared.record.TransferDirection.the-variants.{Out}
 use Rattle.tx_stream.specs.laws.Rules.{unsound}
 use Rattle.descriptors.specs.laws.Sound.{ready-split}
-use Rattle.descriptors.specs.Ring.{Ring, ringOf, sound, splitSound}
+use Rattle.descriptors.specs.Ring.{Ring, ringOf, sound}
 use Rattle.descriptors.specs.declared.ring.Head.{Head}
-use lib.ListN.{getD, length}
-use lib.Dec.{eqb, leb, ltb}
-use native.Mathlib.Omega.{arith}
-use mathlib.Core.Logic.{⊎-elim}
-use mathlib.Core.List.{List, []}
-use mathlib.Core.Bool.{Bool, true, false, cond, _&&_}
-use mathlib.Core.Path.{_≡_, sym, ap, _∙_, refl}
-use Prim.Native.Nat.{ℕ, suc, _+_, _-_, _*_, _≤_, _<_}
+use mathlib.Core.List.{List}
+use mathlib.Core.Bool.{true, false}
+use mathlib.Core.Path.{_≡_, sym, ap, _∙_}
+use Prim.Native.Nat.{ℕ}
 use borrow.Author.Needs.{needs}
 use Rattle.tx_stream.proofs.in_place.available_in.Statement.{statement}
 use Rattle.tx_stream.proofs.in_place.available_in.Tie as tie
-use Rattle.tx_stream.proofs.in_place.available_in.Reads as reads
-use Rattle.tx_stream.proofs.in_place.available_in.Lts as lts
-use Rattle.descriptors.proofs.ring.judge.Reads as judge-reads
-use Rattle.tx_stream.proofs.answer.counted.Reads as counted-reads
-use Rattle.tx_stream.proofs.room.available.Reads as available-reads
 
 abbrev st : tie.After-judge → List ℕ
 st j = j .before .before .before .args .s .now

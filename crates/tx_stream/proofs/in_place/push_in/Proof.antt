@@ -2,7 +2,7 @@ use Rattle.tx_stream.specs.laws.Room.{offset-fits, place-in, room-fits}
 use Rattle.tx_stream.specs.laws.Accepts.{room-is, place-is, filled-cells, filled-head}
 use Rattle.tx_stream.specs.laws.Rules.{bad-state, push-no, push-yes, push-into-no, push-into-yes}
 use Rattle.tx_stream.specs.Faces.{acceptingOf, filledCells, filledHead}
-use Rattle.tx_stream.specs.Transmit.{pushOf, pasteRound, writeAt}
+use Rattle.tx_stream.specs.Transmit.{pasteRound, writeAt}
 use Rattle.descriptors.specs.laws.Words.{cells-same}
 use Rattle.descriptors.specs.Walk.{availableIn}
 use lib.ListN.{take}
@@ -12,28 +12,17 @@ use Rattle.descriptors.specs.declared.refusal.Counted.{Counted}
 use Rattle.descriptors.specs.declared.record.TransferDirection.the-variants.{Out}
 use Rattle.tx_stream.specs.laws.Rules.{unsound}
 use Rattle.descriptors.specs.laws.Sound.{ready-split}
-use Rattle.descriptors.specs.Ring.{Ring, ringOf, sound, splitSound}
+use Rattle.descriptors.specs.Ring.{Ring, ringOf, sound}
 use Rattle.descriptors.specs.declared.ring.Head.{Head}
-use lib.ListN.{getD, length}
-use lib.Dec.{eqb, leb, ltb}
+use lib.ListN.{length}
 use native.Mathlib.Omega.{arith}
-use mathlib.Core.Logic.{⊎-elim}
-use mathlib.Core.List.{List, []}
-use mathlib.Core.Bool.{Bool, true, false, cond, _&&_}
-use mathlib.Core.Path.{_≡_, sym, ap, _∙_, refl}
-use Prim.Native.Nat.{ℕ, suc, _+_, _-_, _*_, _≤_, _<_}
+use mathlib.Core.List.{List}
+use mathlib.Core.Bool.{true, false}
+use mathlib.Core.Path.{_≡_, sym, ap, _∙_}
+use Prim.Native.Nat.{ℕ}
 use borrow.Author.Needs.{needs}
 use Rattle.tx_stream.proofs.in_place.push_in.Statement.{statement}
 use Rattle.tx_stream.proofs.in_place.push_in.Tie as tie
-use Rattle.tx_stream.proofs.in_place.push_in.Reads as reads
-use Rattle.tx_stream.proofs.in_place.push_in.Lts as lts
-use Rattle.descriptors.proofs.ring.judge.Reads as judge-reads
-use Rattle.tx_stream.proofs.accept.accept_in.Reads as accept-in-reads
-use Rattle.tx_stream.proofs.answer.refused.Reads as refused-reads
-use Rattle.tx_stream.proofs.copy.copy_round.Reads as copy-round-reads
-use Rattle.tx_stream.proofs.copy.least.Reads as least-reads
-use Rattle.tx_stream.proofs.room.available.Reads as available-reads
-use Rattle.tx_stream.proofs.room.write_position.Reads as write-position-reads
 
 abbrev st : tie.After-judge → List ℕ
 st j = j .before .before .before .before .before .before .args .s .now

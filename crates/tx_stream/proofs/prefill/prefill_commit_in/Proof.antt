@@ -1,29 +1,20 @@
 use Rattle.tx_stream.specs.laws.Rules.{bad-state, prefill-commit-no, prefill-commit-much, prefill-commit-yes}
-use Rattle.tx_stream.specs.Faces.{acceptingOf, prefilledHead}
+use Rattle.tx_stream.specs.Faces.{acceptingOf}
 use Rattle.descriptors.specs.laws.Sound.{split-facts}
 use Rattle.descriptors.specs.declared.refusal.Counted.{Counted}
-use borrow.Author.Tests.{eq-eqb, ne-eqb, lt-ltb, le-ltb, le-leb, lt-leb, not-true, not-false}
+use borrow.Author.Tests.{le-leb, lt-leb}
 use Rattle.tx_stream.specs.laws.Rules.{unsound}
 use Rattle.descriptors.specs.laws.Sound.{ready-split}
-use Rattle.descriptors.specs.Ring.{Ring, ringOf, sound, splitSound}
+use Rattle.descriptors.specs.Ring.{Ring, ringOf, splitSound}
 use Rattle.descriptors.specs.declared.ring.Head.{Head}
-use lib.ListN.{getD, length}
-use lib.Dec.{eqb, leb, ltb}
 use native.Mathlib.Omega.{arith}
-use mathlib.Core.Logic.{⊎-elim}
-use mathlib.Core.List.{List, []}
-use mathlib.Core.Bool.{Bool, true, false, cond, _&&_}
-use mathlib.Core.Path.{_≡_, sym, ap, _∙_, refl}
-use Prim.Native.Nat.{ℕ, suc, _+_, _-_, _*_, _≤_, _<_}
+use mathlib.Core.List.{List}
+use mathlib.Core.Bool.{true, false}
+use mathlib.Core.Path.{_≡_, sym, ap, _∙_}
+use Prim.Native.Nat.{ℕ, _≤_}
 use borrow.Author.Needs.{needs}
 use Rattle.tx_stream.proofs.prefill.prefill_commit_in.Statement.{statement}
 use Rattle.tx_stream.proofs.prefill.prefill_commit_in.Tie as tie
-use Rattle.tx_stream.proofs.prefill.prefill_commit_in.Reads as reads
-use Rattle.tx_stream.proofs.prefill.prefill_commit_in.Lts as lts
-use Rattle.descriptors.proofs.ring.judge_split.Reads as judge-split-reads
-use Rattle.tx_stream.proofs.answer.refused.Reads as refused-reads
-use Rattle.tx_stream.proofs.answer.too_much.Reads as too-much-reads
-use Rattle.tx_stream.proofs.prefill.prefilled_by.Reads as prefilled-by-reads
 
 abbrev st : tie.After-judge-split → List ℕ
 st j = j .before .before .before .args .s .now

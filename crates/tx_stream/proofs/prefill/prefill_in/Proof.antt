@@ -7,26 +7,17 @@ use Rattle.descriptors.specs.declared.refusal.Counted.the-variants as counted
 use Rattle.descriptors.specs.declared.refusal.Counted.{Counted}
 use Rattle.tx_stream.specs.laws.Rules.{unsound}
 use Rattle.descriptors.specs.laws.Sound.{ready-split}
-use Rattle.descriptors.specs.Ring.{Ring, ringOf, sound, splitSound}
+use Rattle.descriptors.specs.Ring.{Ring, ringOf, splitSound}
 use Rattle.descriptors.specs.declared.ring.Head.{Head}
-use lib.ListN.{getD, length}
-use lib.Dec.{eqb, leb, ltb}
+use lib.ListN.{length}
 use native.Mathlib.Omega.{arith}
-use mathlib.Core.Logic.{⊎-elim}
-use mathlib.Core.List.{List, []}
-use mathlib.Core.Bool.{Bool, true, false, cond, _&&_}
-use mathlib.Core.Path.{_≡_, sym, ap, _∙_, refl}
-use Prim.Native.Nat.{ℕ, suc, _+_, _-_, _*_, _≤_, _<_}
+use mathlib.Core.List.{List}
+use mathlib.Core.Bool.{true, false}
+use mathlib.Core.Path.{_≡_, sym, ap, _∙_}
+use Prim.Native.Nat.{ℕ, _≤_}
 use borrow.Author.Needs.{needs}
 use Rattle.tx_stream.proofs.prefill.prefill_in.Statement.{statement}
 use Rattle.tx_stream.proofs.prefill.prefill_in.Tie as tie
-use Rattle.tx_stream.proofs.prefill.prefill_in.Reads as reads
-use Rattle.tx_stream.proofs.prefill.prefill_in.Lts as lts
-use Rattle.descriptors.proofs.ring.judge_split.Reads as judge-split-reads
-use Rattle.tx_stream.proofs.answer.refused.Reads as refused-reads
-use Rattle.tx_stream.proofs.copy.copy_to.Reads as copy-to-reads
-use Rattle.tx_stream.proofs.copy.least.Reads as least-reads
-use Rattle.tx_stream.proofs.prefill.prefilled_by.Reads as prefilled-by-reads
 
 abbrev st : tie.After-judge-split → List ℕ
 st j = j .before .before .before .before .before .args .s .now

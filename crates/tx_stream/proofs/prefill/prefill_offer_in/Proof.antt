@@ -1,27 +1,22 @@
 use Rattle.tx_stream.specs.laws.Rules.{prefill-offer-at, prefill-place-no}
-use Rattle.tx_stream.specs.Faces.{partFrom}
+use Rattle.descriptors.specs.Part.{partFrom}
 use Rattle.tx_stream.specs.laws.Rules.{prefill-offer-no, prefill-offer-yes}
 use Rattle.descriptors.specs.laws.Sound.{split-facts}
 use lib.Seq.{take-all}
 use lib.ListN.{drop, length-drop}
 use Rattle.tx_stream.specs.laws.Rules.{unsound}
 use Rattle.descriptors.specs.laws.Sound.{ready-split}
-use Rattle.descriptors.specs.Ring.{Ring, ringOf, sound, splitSound}
+use Rattle.descriptors.specs.Ring.{Ring, ringOf, splitSound}
 use Rattle.descriptors.specs.declared.ring.Head.{Head}
-use lib.ListN.{getD, length}
-use lib.Dec.{eqb, leb, ltb}
+use lib.ListN.{length}
 use native.Mathlib.Omega.{arith}
-use mathlib.Core.Logic.{⊎-elim}
-use mathlib.Core.List.{List, []}
-use mathlib.Core.Bool.{Bool, true, false, cond, _&&_}
-use mathlib.Core.Path.{_≡_, sym, ap, _∙_, refl}
-use Prim.Native.Nat.{ℕ, suc, _+_, _-_, _*_, _≤_, _<_}
+use mathlib.Core.List.{List}
+use mathlib.Core.Bool.{true, false}
+use mathlib.Core.Path.{_≡_, sym, ap, _∙_}
+use Prim.Native.Nat.{ℕ, _-_, _≤_}
 use borrow.Author.Needs.{needs}
 use Rattle.tx_stream.proofs.prefill.prefill_offer_in.Statement.{statement}
 use Rattle.tx_stream.proofs.prefill.prefill_offer_in.Tie as tie
-use Rattle.tx_stream.proofs.prefill.prefill_offer_in.Reads as reads
-use Rattle.tx_stream.proofs.prefill.prefill_offer_in.Lts as lts
-use Rattle.descriptors.proofs.ring.judge_split.Reads as judge-split-reads
 
 abbrev st : tie.After-judge-split → List ℕ
 st j = j .before .before .before .before .args .s .now

@@ -1,20 +1,10 @@
 use Rattle.tx_stream.specs.laws.Rules.{tally-wraps}
 use Rattle.descriptors.specs.declared.refusal.Counted.the-variants as counted
-use Prim.Native.Nat.{_%_, _^_}
-use lib.ListN.{getD, length}
-use lib.Dec.{eqb, leb, ltb}
-use native.Mathlib.Omega.{arith}
-use mathlib.Core.Logic.{⊎-elim}
-use mathlib.Core.List.{List, []}
-use mathlib.Core.Bool.{Bool, true, false, cond, _&&_}
-use mathlib.Core.Path.{_≡_, sym, ap, _∙_, refl}
-use Prim.Native.Nat.{ℕ, suc, _+_, _-_, _*_, _≤_, _<_}
+use mathlib.Core.Path.{ap, _∙_}
+use Prim.Native.Nat.{ℕ, _+_}
 use borrow.Author.Needs.{needs}
 use Rattle.tx_stream.proofs.prefill.prefilled_by.Statement.{statement}
 use Rattle.tx_stream.proofs.prefill.prefilled_by.Tie as tie
-use Rattle.tx_stream.proofs.prefill.prefilled_by.Reads as reads
-use Rattle.tx_stream.proofs.prefill.prefilled_by.Lts as lts
-use Rattle.std.proofs.num.wrapping_add_u32.Reads as wrapping-add-u32-reads
 
 cast-wrapping-add-u32 : tie.Need-cast-wrapping-add-u32
 cast-wrapping-add-u32 c = search needs

@@ -2,20 +2,13 @@ use Rattle.tx_stream.specs.laws.Prepares.{reached-none, reached-here, re
 use Rattle.tx_stream.specs.Transmit.{Reached, reached}
 use Rattle.descriptors.specs.declared.record.DmaDescriptor.{DmaDescriptor}
 use Rattle.descriptors.specs.Cells.{recordAt}
-use lib.ListN.{getD, length}
-use lib.Dec.{eqb, leb, ltb}
 use borrow.Author.Needs.{needs}
 use native.Mathlib.Omega.{arith}
-use mathlib.Core.Logic.{⊎-elim}
-use mathlib.Core.List.{List, []}
-use mathlib.Core.Bool.{Bool, true, false, cond, _&&_}
-use mathlib.Core.Path.{_≡_, sym, ap, _∙_, refl}
-use Prim.Native.Nat.{ℕ, suc, _+_, _-_, _*_, _≤_, _<_}
+use mathlib.Core.List.{[]}
+use mathlib.Core.Path.{_≡_, sym, ap, _∙_}
+use Prim.Native.Nat.{ℕ, _+_, _-_, _≤_}
 use Rattle.tx_stream.proofs.prepare.end_of.Statement.{statement}
 use Rattle.tx_stream.proofs.prepare.end_of.Tie as tie
-use Rattle.tx_stream.proofs.prepare.end_of.Reads as reads
-use Rattle.tx_stream.proofs.prepare.end_of.Lts as lts
-use Rattle.descriptors.proofs.cells.size_of.Reads as size-of-reads
 
 abbrev Inv-loop : tie.InvT-loop
 Inv-loop w n bytes-pushed d₀ remaining₀ d remaining =

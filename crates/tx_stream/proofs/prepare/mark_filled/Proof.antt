@@ -1,23 +1,16 @@
 use Rattle.tx_stream.specs.Faces.{fillCells}
 use Rattle.descriptors.specs.laws.Updates.{up-none, up-more}
-use Rattle.descriptors.specs.Cells.{cell, putLength, putEof}
+use Rattle.descriptors.specs.Cells.{putLength, putEof}
 use Rattle.descriptors.specs.Record.{upTo}
-use lib.ListN.{getD, length}
-use lib.Dec.{eqb, leb, ltb}
+use lib.ListN.{length}
 use borrow.Author.Needs.{needs}
 use native.Mathlib.Omega.{arith}
-use mathlib.Core.Logic.{⊎-elim}
-use mathlib.Core.List.{List, []}
-use mathlib.Core.Bool.{Bool, true, false, cond, _&&_}
+use mathlib.Core.List.{List}
+use mathlib.Core.Bool.{true}
 use mathlib.Core.Path.{_≡_, sym, ap, _∙_, refl}
-use Prim.Native.Nat.{ℕ, suc, _+_, _-_, _*_, _≤_, _<_}
+use Prim.Native.Nat.{ℕ, _-_, _≤_}
 use Rattle.tx_stream.proofs.prepare.mark_filled.Statement.{statement}
 use Rattle.tx_stream.proofs.prepare.mark_filled.Tie as tie
-use Rattle.tx_stream.proofs.prepare.mark_filled.Reads as reads
-use Rattle.tx_stream.proofs.prepare.mark_filled.Lts as lts
-use Rattle.descriptors.proofs.cells.set_length.Reads as set-length-reads
-use Rattle.descriptors.proofs.cells.set_suc_eof.Reads as set-suc-eof-reads
-use Rattle.descriptors.proofs.cells.size_of.Reads as size-of-reads
 
 abbrev Inv-loop : tie.InvT-loop
 Inv-loop w₀ end d₀ w d =

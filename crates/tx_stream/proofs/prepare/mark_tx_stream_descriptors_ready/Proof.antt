@@ -1,27 +1,15 @@
 use Rattle.tx_stream.specs.laws.Prepares.{reached-to, marked-none, marked-all, marked-short, marked-on, cursor-by}
-use Rattle.tx_stream.specs.Transmit.{reached}
-use Rattle.tx_stream.specs.Faces.{fillCells, cutCells, markedCells, markedCursor}
+use Rattle.tx_stream.specs.Faces.{fillCells, cutCells}
 use Rattle.descriptors.specs.Cells.{recordAt, putLength, putEof}
 use Rattle.descriptors.specs.Record.{upTo}
-use borrow.Author.Tests.{eq-eqb, ne-eqb, lt-ltb, le-ltb, le-leb, lt-leb, not-true, not-false}
-use lib.ListN.{getD, length}
-use lib.Dec.{eqb, leb, ltb}
 use native.Mathlib.Omega.{arith}
-use mathlib.Core.Logic.{⊎-elim}
 use mathlib.Core.List.{List, []}
-use mathlib.Core.Bool.{Bool, true, false, cond, _&&_}
-use mathlib.Core.Path.{_≡_, sym, ap, _∙_, refl}
-use Prim.Native.Nat.{ℕ, suc, _+_, _-_, _*_, _≤_, _<_}
+use mathlib.Core.Bool.{true}
+use mathlib.Core.Path.{_≡_, sym, ap, _∙_}
+use Prim.Native.Nat.{ℕ}
 use borrow.Author.Needs.{needs}
 use Rattle.tx_stream.proofs.prepare.mark_tx_stream_descriptors_ready.Statement.{statement}
 use Rattle.tx_stream.proofs.prepare.mark_tx_stream_descriptors_ready.Tie as tie
-use Rattle.tx_stream.proofs.prepare.mark_tx_stream_descriptors_ready.Reads as reads
-use Rattle.tx_stream.proofs.prepare.mark_tx_stream_descriptors_ready.Lts as lts
-use Rattle.descriptors.proofs.cells.set_length.Reads as set-length-reads
-use Rattle.descriptors.proofs.cells.set_suc_eof.Reads as set-suc-eof-reads
-use Rattle.tx_stream.proofs.prepare.end_of.Reads as end-of-reads
-use Rattle.tx_stream.proofs.prepare.mark_filled.Reads as mark-filled-reads
-use Rattle.tx_stream.proofs.prepare.terminate_tx_stream_at.Reads as terminate-tx-stream-at-reads
 
 returns : tie.Need-returns
 returns c = let a = c .before .before .args in marked-none (a .n) (a .bytes-pushed) (a .w .now) (c .if1 .taken)

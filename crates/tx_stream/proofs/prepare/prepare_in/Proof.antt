@@ -1,3 +1,5 @@
+use Rattle.descriptors.specs.declared.record.TransferDirection.the-variants.{Out}
+use Rattle.descriptors.specs.laws.Stores.{link-in}
 use Rattle.tx_stream.specs.laws.Prepares.{preparedHead, prepared}
 use Rattle.tx_stream.specs.laws.Rules.{bad-done, prepare-no}
 use Rattle.tx_stream.specs.declared.prepare.Cursor.{Cursor}
@@ -8,24 +10,16 @@ use Rattle.descriptors.specs.declared.refusal.Done.the-variants as done
 use Rattle.descriptors.specs.declared.refusal.Done.{Done}
 use Rattle.tx_stream.specs.laws.Rules.{unsound}
 use Rattle.descriptors.specs.laws.Sound.{ready-split}
-use Rattle.descriptors.specs.Ring.{Ring, ringOf, sound, splitSound}
+use Rattle.descriptors.specs.Ring.{Ring, ringOf, splitSound}
 use Rattle.descriptors.specs.declared.ring.Head.{Head}
-use lib.ListN.{getD, length}
-use lib.Dec.{eqb, leb, ltb}
 use native.Mathlib.Omega.{arith}
-use mathlib.Core.Logic.{⊎-elim}
-use mathlib.Core.List.{List, []}
-use mathlib.Core.Bool.{Bool, true, false, cond, _&&_}
-use mathlib.Core.Path.{_≡_, sym, ap, _∙_, refl}
-use Prim.Native.Nat.{ℕ, suc, _+_, _-_, _*_, _≤_, _<_}
+use mathlib.Core.List.{List}
+use mathlib.Core.Bool.{true, false}
+use mathlib.Core.Path.{_≡_, ap, _∙_}
+use Prim.Native.Nat.{ℕ}
 use borrow.Author.Needs.{needs}
 use Rattle.tx_stream.proofs.prepare.prepare_in.Statement.{statement}
 use Rattle.tx_stream.proofs.prepare.prepare_in.Tie as tie
-use Rattle.tx_stream.proofs.prepare.prepare_in.Reads as reads
-use Rattle.tx_stream.proofs.prepare.prepare_in.Lts as lts
-use Rattle.descriptors.proofs.ring.judge_split.Reads as judge-split-reads
-use Rattle.descriptors.proofs.walk.link_all.Reads as link-all-reads
-use Rattle.tx_stream.proofs.prepare.mark_tx_stream_descriptors_ready.Reads as mark-tx-stream-descriptors-ready-reads
 
 abbrev st : tie.After-judge-split → List ℕ
 st j = j .before .before .before .before .args .s .now
@@ -85,9 +79,10 @@ returns-2 c =
     let j = t .before .before in
     let n : ℕ = head j .count in
     let b : ℕ = head j .«pre_filled» in
+    let e = l .link-all .ensures ∙ link-in Out n (ws j) (split-facts (ring j) (size j) (is-sound t) .parts .many) in
     let p = prepared (st j) (ws j) (head j) (size j) (is-sound t) in (
-      m .mark-tx-stream-descriptors-ready .ensures .0 ∙ ap (markedCells n b) (l .link-all .ensures) ∙ p .0,
-      ap (λ (x : Cursor). record { head = preparedHead (head j) x; answer = done.Ready }) (m .mark-tx-stream-descriptors-ready .ensures .1 ∙ ap (markedCursor n b) (l .link-all .ensures)) ∙ p .1,
+      m .mark-tx-stream-descriptors-ready .ensures .0 ∙ ap (markedCells n b) e ∙ p .0,
+      ap (λ (x : Cursor). record { head = preparedHead (head j) x; answer = done.Ready }) (m .mark-tx-stream-descriptors-ready .ensures .1 ∙ ap (markedCursor n b) e) ∙ p .1,
     )
 
 pub prepare-in-spec : {M : Type 1} → statement M

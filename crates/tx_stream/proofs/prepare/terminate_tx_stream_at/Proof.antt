@@ -1,21 +1,15 @@
 use Rattle.tx_stream.specs.laws.Prepares.{cut-before, cut-first, cut-more}
 use Rattle.tx_stream.specs.Faces.{cutCells}
 use Rattle.descriptors.specs.Record.{upTo}
-use lib.ListN.{getD, length}
-use lib.Dec.{eqb, leb, ltb}
+use lib.ListN.{length}
 use borrow.Author.Needs.{needs}
 use native.Mathlib.Omega.{arith}
 use mathlib.Core.Logic.{⊎-elim}
-use mathlib.Core.List.{List, []}
-use mathlib.Core.Bool.{Bool, true, false, cond, _&&_}
-use mathlib.Core.Path.{_≡_, sym, ap, _∙_, refl}
-use Prim.Native.Nat.{ℕ, suc, _+_, _-_, _*_, _≤_, _<_}
+use mathlib.Core.List.{List}
+use mathlib.Core.Path.{_≡_, _∙_, refl}
+use Prim.Native.Nat.{ℕ, _-_, _≤_}
 use Rattle.tx_stream.proofs.prepare.terminate_tx_stream_at.Statement.{statement}
 use Rattle.tx_stream.proofs.prepare.terminate_tx_stream_at.Tie as tie
-use Rattle.tx_stream.proofs.prepare.terminate_tx_stream_at.Reads as reads
-use Rattle.tx_stream.proofs.prepare.terminate_tx_stream_at.Lts as lts
-use Rattle.descriptors.proofs.cells.set_next.Reads as set-next-reads
-use Rattle.descriptors.proofs.cells.set_owner.Reads as set-owner-reads
 
 abbrev Inv-loop : tie.InvT-loop
 Inv-loop w₀ n start i₀ w i =

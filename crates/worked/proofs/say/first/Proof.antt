@@ -1,20 +1,8 @@
-use lib.ListN.{getD, length}
-use lib.Dec.{eqb, leb, ltb}
+use lib.ListN.{length}
 use borrow.Author.Needs.{needs}
-use native.Mathlib.Omega.{arith}
-use mathlib.Core.Logic.{⊎-elim}
-use mathlib.Core.List.{List, []}
-use mathlib.Core.Bool.{Bool, true, false, cond, _&&_}
-use mathlib.Core.Path.{_≡_, sym, ap, _∙_, refl}
-use Prim.Native.Nat.{ℕ, suc, _+_, _-_, _*_, _≤_, _<_}
+use Prim.Native.Nat.{_-_, _≤_}
 use Rattle.worked.proofs.say.first.Statement.{statement}
 use Rattle.worked.proofs.say.first.Tie as tie
-use Rattle.worked.proofs.say.first.Reads as reads
-use Rattle.worked.proofs.say.first.Lts as lts
-use Rattle.io.proofs.print_hex.Reads as print-hex-reads
-use Rattle.worked.proofs.say.line.Reads as line-reads
-use Rattle.worked.proofs.say.text.Reads as text-reads
-use Rattle.worked.proofs.say.wide.Reads as wide-reads
 
 abbrev Inv-loop : tie.InvT-loop
 Inv-loop name part k i₀ i =

@@ -1,20 +1,9 @@
 use Rattle.tx_stream.specs.Transmit.{prefillCommitOf}
 use Rattle.tx_stream.specs.laws.Values.{pushed-by, commit-keeps}
 use Rattle.tx_stream.specs.Values.{bufRing}
-use lib.ListN.{getD, length}
-use lib.Dec.{eqb, leb, ltb}
-use native.Mathlib.Omega.{arith}
-use mathlib.Core.Logic.{⊎-elim}
-use mathlib.Core.List.{List, []}
-use mathlib.Core.Bool.{Bool, true, false, cond, _&&_}
-use mathlib.Core.Path.{_≡_, sym, ap, _∙_, refl}
-use Prim.Native.Nat.{ℕ, suc, _+_, _-_, _*_, _≤_, _<_}
 use borrow.Author.Needs.{needs}
 use Rattle.tx_stream.proofs.buf.DmaTxStreamBuf.commit.Statement.{statement}
 use Rattle.tx_stream.proofs.buf.DmaTxStreamBuf.commit.Tie as tie
-use Rattle.tx_stream.proofs.buf.DmaTxStreamBuf.commit.Reads as reads
-use Rattle.tx_stream.proofs.buf.DmaTxStreamBuf.commit.Lts as lts
-use Rattle.tx_stream.proofs.prefill.prefill_commit_in.Reads as prefill-commit-in-reads
 
 slice-aggregate-prefill-commit-in : tie.Need-slice-aggregate-prefill-commit-in
 slice-aggregate-prefill-commit-in c = search needs

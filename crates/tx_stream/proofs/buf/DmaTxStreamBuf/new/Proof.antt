@@ -1,18 +1,8 @@
 use Rattle.tx_stream.specs.laws.Values.{built-by}
-use lib.ListN.{getD, length}
-use lib.Dec.{eqb, leb, ltb}
-use native.Mathlib.Omega.{arith}
-use mathlib.Core.Logic.{⊎-elim}
-use mathlib.Core.List.{List, []}
-use mathlib.Core.Bool.{Bool, true, false, cond, _&&_}
-use mathlib.Core.Path.{_≡_, sym, ap, _∙_, refl}
-use Prim.Native.Nat.{ℕ, suc, _+_, _-_, _*_, _≤_, _<_}
+use lib.ListN.{length}
 use borrow.Author.Needs.{needs}
 use Rattle.tx_stream.proofs.buf.DmaTxStreamBuf.new.Statement.{statement}
 use Rattle.tx_stream.proofs.buf.DmaTxStreamBuf.new.Tie as tie
-use Rattle.tx_stream.proofs.buf.DmaTxStreamBuf.new.Reads as reads
-use Rattle.tx_stream.proofs.buf.DmaTxStreamBuf.new.Lts as lts
-use Rattle.descriptors.proofs.ring.new_in.Reads as new-in-reads
 
 slice-aggregate-new-in : tie.Need-slice-aggregate-new-in
 slice-aggregate-new-in c = search needs

@@ -1,18 +1,7 @@
 use Rattle.tx_stream.specs.laws.Values.{prepared-by}
-use lib.ListN.{getD, length}
-use lib.Dec.{eqb, leb, ltb}
-use native.Mathlib.Omega.{arith}
-use mathlib.Core.Logic.{⊎-elim}
-use mathlib.Core.List.{List, []}
-use mathlib.Core.Bool.{Bool, true, false, cond, _&&_}
-use mathlib.Core.Path.{_≡_, sym, ap, _∙_, refl}
-use Prim.Native.Nat.{ℕ, suc, _+_, _-_, _*_, _≤_, _<_}
 use borrow.Author.Needs.{needs}
 use Rattle.tx_stream.proofs.buf.DmaTxStreamBuf.prepare.Statement.{statement}
 use Rattle.tx_stream.proofs.buf.DmaTxStreamBuf.prepare.Tie as tie
-use Rattle.tx_stream.proofs.buf.DmaTxStreamBuf.prepare.Reads as reads
-use Rattle.tx_stream.proofs.buf.DmaTxStreamBuf.prepare.Lts as lts
-use Rattle.tx_stream.proofs.prepare.prepare_in.Reads as prepare-in-reads
 
 slice-aggregate-prepare-in : tie.Need-slice-aggregate-prepare-in
 slice-aggregate-prepare-in c = search needs

@@ -1,20 +1,10 @@
 use Rattle.tx_stream.specs.Transmit.{prefillOf}
 use Rattle.tx_stream.specs.laws.Values.{pushed-by, prefill-keeps}
 use Rattle.tx_stream.specs.Values.{bufRing}
-use lib.ListN.{getD, length}
-use lib.Dec.{eqb, leb, ltb}
-use native.Mathlib.Omega.{arith}
-use mathlib.Core.Logic.{⊎-elim}
-use mathlib.Core.List.{List, []}
-use mathlib.Core.Bool.{Bool, true, false, cond, _&&_}
-use mathlib.Core.Path.{_≡_, sym, ap, _∙_, refl}
-use Prim.Native.Nat.{ℕ, suc, _+_, _-_, _*_, _≤_, _<_}
+use lib.ListN.{length}
 use borrow.Author.Needs.{needs}
 use Rattle.tx_stream.proofs.buf.DmaTxStreamBuf.push.Statement.{statement}
 use Rattle.tx_stream.proofs.buf.DmaTxStreamBuf.push.Tie as tie
-use Rattle.tx_stream.proofs.buf.DmaTxStreamBuf.push.Reads as reads
-use Rattle.tx_stream.proofs.buf.DmaTxStreamBuf.push.Lts as lts
-use Rattle.tx_stream.proofs.prefill.prefill_in.Reads as prefill-in-reads
 
 slice-aggregate-prefill-in : tie.Need-slice-aggregate-prefill-in
 slice-aggregate-prefill-in c = search needs

@@ -1,20 +1,9 @@
 use Rattle.tx_stream.specs.Values.{viewRing}
 use Rattle.tx_stream.specs.Transmit.{advanceOf}
 use Rattle.tx_stream.specs.laws.Values.{advanced-by}
-use lib.ListN.{getD, length}
-use lib.Dec.{eqb, leb, ltb}
-use native.Mathlib.Omega.{arith}
-use mathlib.Core.Logic.{⊎-elim}
-use mathlib.Core.List.{List, []}
-use mathlib.Core.Bool.{Bool, true, false, cond, _&&_}
-use mathlib.Core.Path.{_≡_, sym, ap, _∙_, refl}
-use Prim.Native.Nat.{ℕ, suc, _+_, _-_, _*_, _≤_, _<_}
 use borrow.Author.Needs.{needs}
 use Rattle.tx_stream.proofs.view.DmaTxStreamBufView.advance.Statement.{statement}
 use Rattle.tx_stream.proofs.view.DmaTxStreamBufView.advance.Tie as tie
-use Rattle.tx_stream.proofs.view.DmaTxStreamBufView.advance.Reads as reads
-use Rattle.tx_stream.proofs.view.DmaTxStreamBufView.advance.Lts as lts
-use Rattle.tx_stream.proofs.in_place.advance_in.Reads as advance-in-reads
 
 slice-aggregate-advance-in : tie.Need-slice-aggregate-advance-in
 slice-aggregate-advance-in c = search needs

@@ -1,20 +1,9 @@
 use Rattle.tx_stream.specs.Values.{viewRing}
 use Rattle.tx_stream.specs.Transmit.{commitOf}
 use Rattle.tx_stream.specs.laws.Values.{advanced-by}
-use lib.ListN.{getD, length}
-use lib.Dec.{eqb, leb, ltb}
-use native.Mathlib.Omega.{arith}
-use mathlib.Core.Logic.{⊎-elim}
-use mathlib.Core.List.{List, []}
-use mathlib.Core.Bool.{Bool, true, false, cond, _&&_}
-use mathlib.Core.Path.{_≡_, sym, ap, _∙_, refl}
-use Prim.Native.Nat.{ℕ, suc, _+_, _-_, _*_, _≤_, _<_}
 use borrow.Author.Needs.{needs}
 use Rattle.tx_stream.proofs.view.DmaTxStreamBufView.commit.Statement.{statement}
 use Rattle.tx_stream.proofs.view.DmaTxStreamBufView.commit.Tie as tie
-use Rattle.tx_stream.proofs.view.DmaTxStreamBufView.commit.Reads as reads
-use Rattle.tx_stream.proofs.view.DmaTxStreamBufView.commit.Lts as lts
-use Rattle.tx_stream.proofs.in_place.commit_in.Reads as commit-in-reads
 
 slice-aggregate-commit-in : tie.Need-slice-aggregate-commit-in
 slice-aggregate-commit-in c = search needs

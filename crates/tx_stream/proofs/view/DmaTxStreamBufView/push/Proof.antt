@@ -1,20 +1,10 @@
 use Rattle.tx_stream.specs.Values.{viewRing}
 use Rattle.tx_stream.specs.Transmit.{pushOf}
 use Rattle.tx_stream.specs.laws.Values.{advanced-by}
-use lib.ListN.{getD, length}
-use lib.Dec.{eqb, leb, ltb}
-use native.Mathlib.Omega.{arith}
-use mathlib.Core.Logic.{⊎-elim}
-use mathlib.Core.List.{List, []}
-use mathlib.Core.Bool.{Bool, true, false, cond, _&&_}
-use mathlib.Core.Path.{_≡_, sym, ap, _∙_, refl}
-use Prim.Native.Nat.{ℕ, suc, _+_, _-_, _*_, _≤_, _<_}
+use lib.ListN.{length}
 use borrow.Author.Needs.{needs}
 use Rattle.tx_stream.proofs.view.DmaTxStreamBufView.push.Statement.{statement}
 use Rattle.tx_stream.proofs.view.DmaTxStreamBufView.push.Tie as tie
-use Rattle.tx_stream.proofs.view.DmaTxStreamBufView.push.Reads as reads
-use Rattle.tx_stream.proofs.view.DmaTxStreamBufView.push.Lts as lts
-use Rattle.tx_stream.proofs.in_place.push_in.Reads as push-in-reads
 
 slice-aggregate-push-in : tie.Need-slice-aggregate-push-in
 slice-aggregate-push-in c = search needs
