@@ -1,3 +1,5 @@
-pub mod Demand3Receive
+pub mod Demand3
+pub mod Shared
 pub mod receive
-pub mod ExampleReceive
+pub mod transmit
+pub mod Theorem

@@ -1,4 +1,3 @@
-pub mod Tally
 pub mod Good
 pub mod Take
 pub mod Fill

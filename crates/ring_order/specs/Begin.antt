@@ -1,17 +1,14 @@
 -- What `new` leaves, and the links of `prepare`.
 use mathlib.Core.Path.{_≡_, refl, sym, _∙_, ap, subst}
 use mathlib.Core.Bool.{Bool, true, false, cond}
-use mathlib.Core.Logic.{_≢_}
-use mathlib.Core.List.{List, []}
+use mathlib.Core.List.{List}
 use Prim.Native.Nat.{ℕ, zero, suc, _+_, _≤_, _<_, suc-le-suc}
 use native.Mathlib.Omega.{arith}
 use native.Mathlib.Decide.{ℕ-discrete}
-use lib.Dec.{eqb}
+use lib.Dec.{ltb}
 use lib.ListN.{length}
-use borrow.Author.Tests.{eqb-false, eq-eqb, ne-eqb, lt-ltb}
-use Rattle.descriptors.specs.Record.{limit, recordIn, linked, following}
-use Rattle.descriptors.specs.Cells.{areRecords, recordsOf, recordAt}
-use Rattle.descriptors.specs.Cells as cells
+use borrow.Author.Tests.{ltb-false, eq-eqb, ne-eqb, lt-ltb}
+use Rattle.descriptors.specs.Record.{recordIn, linked, following}
 use Rattle.descriptors.specs.Split.{splitOf, isParts, accepts, startOf, sizeOf, laid, laidOut}
 use Rattle.descriptors.specs.Ring.{Ring, Outcome, refused, fresh, newBy, newOf, linkedAll, below, splitSound}
 use Rattle.descriptors.specs.declared.record.Owner.the-variants.{Dma}
@@ -25,11 +22,10 @@ use Rattle.descriptors.specs.declared.refusal.Done.{Done}
 use Rattle.descriptors.specs.declared.refusal.Done.the-variants as done
 use Rattle.descriptors.specs.declared.split.Split.{Split}
 use Rattle.descriptors.specs.declared.split.Split.the-variants as split
+use Rattle.descriptors.specs.laws.Updates.{each-length, each-at}
 use Rattle.ring_order.specs.Places.{place, place-from-zero}
 use Rattle.ring_order.specs.Lists.{tab, tab-cong}
-use Rattle.ring_order.specs.Geometry.{geometry}
 use Rattle.ring_order.specs.Shape.{Laid, of-laid}
-use Rattle.ring_order.specs.Stores.{each-length, each-same}
 use Rattle.ring_order.specs.View.{Cell, cellIn, view, view-tab}
 use Rattle.ring_order.specs.Queue.{Linked}
 
@@ -45,14 +41,14 @@ module _ (dir : TransferDirection) (ds : List DmaDescriptor) (n len : ℕ) where
   pub record New (o : Outcome Done) (accepted : Bool) : Type 0 where
     pub ring : o .ring ≡ fresh (laidOut dir n len ds) n
     pub parts : accepted ≡ true
-    pub some : length ds ≢ 0
+    pub enough : n ≤ length ds
 
-  new-some : (t : Bool) → eqb (length ds) 0 ≡ t → cond t (refused (fresh ds n) (done.Refused BadState)) ready .answer ≡ done.Ready → New (cond t (refused (fresh ds n) (done.Refused BadState)) ready) true
+  new-some : (t : Bool) → ltb (length ds) n ≡ t → cond t (refused (fresh ds n) (done.Refused BadState)) ready .answer ≡ done.Ready → New (cond t (refused (fresh ds n) (done.Refused BadState)) ready) true
   new-some true e h = absurd (refused-not BadState h)
-  new-some false e h = record { ring = refl; parts = refl; some = eqb-false (length ds) 0 e }
+  new-some false e h = record { ring = refl; parts = refl; enough = ltb-false (length ds) n e }
 
   new-by : (s : Split) → newBy dir ds n len s .answer ≡ done.Ready → New (newBy dir ds n len s) (isParts s)
-  new-by (split.Parts chunk rest) h = new-some (eqb (length ds) 0) refl h
+  new-by (split.Parts chunk rest) h = new-some (ltb (length ds) n) refl h
   new-by (split.Refused e) h = absurd (refused-not e h)
 
   -- `new` answered Ready
@@ -62,11 +58,11 @@ module _ (dir : TransferDirection) (ds : List DmaDescriptor) (n len : ℕ) where
 
   same-laid : (i : ℕ) → n ≤ length ds → i < n → recordIn (laidOut dir n len ds) i ≡ laid dir n len i (recordIn ds i)
   unfolding laidOut
-  same-laid i h l = each-same (laid dir n len) ds n i l h
+  same-laid i h l = each-at (laid dir n len) n ds i l h
 
   length-laid : length (laidOut dir n len ds) ≡ length ds
   unfolding laidOut
-  length-laid = each-length (laid dir n len) ds n
+  length-laid = each-length (laid dir n len) n ds
 
   pub laid-out : accepts n len ≡ true → n ≤ length ds → Laid n len (laidOut dir n len ds)
   laid-out a h =
@@ -85,29 +81,11 @@ module _ (dir : TransferDirection) (ds : List DmaDescriptor) (n len : ℕ) where
       laid-room In i d = refl
       laid-room Out i d = refl
 
-  -- the ring that `new` leaves has its split, if there are records for it
-  pub new-split : newOf dir ds n len .answer ≡ done.Ready → n ≤ length ds → splitSound (newOf dir ds n len .ring) len ≡ true
-  new-split h l =
+  -- the ring that `new` leaves has its split
+  pub new-split : newOf dir ds n len .answer ≡ done.Ready → splitSound (newOf dir ds n len .ring) len ≡ true
+  new-split h =
       let w = new-ready h in
-      ap (λ (r : Ring). splitSound r len) (w .ring) ∙ of-laid (fresh (laidOut dir n len ds) n) len (laid-out (w .parts) l) (omega arith)
-
--- the records that words show are as many as a ring can have
-length-cells : {A : Type 0} (f : ℕ → A) (k i : ℕ) → length (cells.tab f k i) ≡ k
-length-cells f zero i = refl
-length-cells f (suc k) i = ap suc (length-cells f k (suc i))
-
-pub words-some : (st ws : List ℕ) → length (recordsOf st ws) ≢ 0 → length (recordsOf st ws) ≡ limit
-unfolding recordsOf
-words-some st ws = go (areRecords st ws)
-  where
-    go : (t : Bool) → length (cond t (cells.tab (recordAt st ws) limit 0) []) ≢ 0 → length (cond t (cells.tab (recordAt st ws) limit 0) []) ≡ limit
-    go true h = length-cells (recordAt st ws) limit 0
-    go false h = absurd (h refl)
-
-pub new-words : (dir : TransferDirection) (st ws : List ℕ) (n len : ℕ) → newOf dir (recordsOf st ws) n len .answer ≡ done.Ready → n ≤ length (recordsOf st ws)
-new-words dir st ws n len h =
-    let w = new-ready dir (recordsOf st ws) n len h in
-    omega (arith, words-some st ws (w .some), geometry n len (w .parts) .few)
+      ap (λ (r : Ring). splitSound r len) (w .ring) ∙ of-laid (fresh (laidOut dir n len ds) n) len (laid-out (w .parts) (w .enough)) (omega arith)
 
 -- ---- the links of `prepare`
 
@@ -129,11 +107,11 @@ following-below n i h = go (ℕ-discrete (suc i) n)
 module _ (dir : TransferDirection) (n : ℕ) (ds : List DmaDescriptor) (enough : n ≤ length ds) where
   pub linked-record : (i : ℕ) → i < n → recordIn (linkedAll dir n ds) i ≡ linked dir n i (recordIn ds i)
   unfolding linkedAll
-  linked-record i h = each-same (linked dir n) ds n i h enough
+  linked-record i h = each-at (linked dir n) n ds i h enough
 
   pub linked-length : length (linkedAll dir n ds) ≡ length ds
   unfolding linkedAll
-  linked-length = each-length (linked dir n) ds n
+  linked-length = each-length (linked dir n) n ds
 
 linked-next : (dir : TransferDirection) (n i : ℕ) (d : DmaDescriptor) → linked dir n i d .next ≡ following n i
 linked-next In n i d = refl

@@ -4,7 +4,7 @@ use mathlib.Core.Path.{_≡_, refl, sym, _∙_, ap, subst}
 use mathlib.Core.Bool.{Bool, true, false, cond}
 use mathlib.Core.Logic.{_⊎_, inl, inr}
 use mathlib.Core.List.{List, [], _∷_, _++_, append-assoc, append-nil, map, map-append}
-use Prim.Native.Nat.{ℕ, zero, suc, _+_, _-_, _≤_, _<_, min}
+use Prim.Native.Nat.{ℕ, zero, suc, _+_, _-_, _≤_, _<_}
 use native.Mathlib.Omega.{arith}
 use lib.Dec.{ltb}
 use lib.ListN.{length, take, drop, length-append, length-drop, length-map}
@@ -25,11 +25,11 @@ use Rattle.ring_order.specs.Queue.{idxs, owners, loads, join, cat, bare,
 -- ---- the walk, by what it meets
 
 module _ (dir : TransferDirection) (f : ℕ → DmaDescriptor) (n k : ℕ) (m : Moved) where
-  walk-dma : isCpu (f (m .at) .owner) ≡ false → walk dir f n (suc k) m ≡ m
+  pub walk-dma : isCpu (f (m .at) .owner) ≡ false → walk dir f n (suc k) m ≡ m
   unfolding walk
   walk-dma e = ap (λ (t : Bool). cond t (cond (ltb (m .rest) (spanOf dir (f (m .at)) - m .offset)) (inside m) (walk dir f n k (past dir f n m))) m) e
 
-  walk-cpu : (t : Bool) → isCpu (f (m .at) .owner) ≡ true → ltb (m .rest) (spanOf dir (f (m .at)) - m .offset) ≡ t
+  pub walk-cpu : (t : Bool) → isCpu (f (m .at) .owner) ≡ true → ltb (m .rest) (spanOf dir (f (m .at)) - m .offset) ≡ t
       → walk dir f n (suc k) m ≡ cond t (inside m) (walk dir f n k (past dir f n m))
   unfolding walk
   walk-cpu t e h =
@@ -73,15 +73,14 @@ pub record Walked (dir : TransferDirection) (n len : ℕ) (b : List ℕ) (ds : L
   pub back : m′ .back ≡ m .back + length used
   pub counted : m .offset + m .rest ≡ length (cat used) + (m′ .offset + m′ .rest)
   pub fewer : m′ .rest ≤ m .rest
-  pub ended : (m′ .rest ≡ 0) ⊎ (run′ ≡ [])
   pub parted : Parted dir n len (turns (handOver dir n) n (length used) (m .at) ds) b (m′ .at) (m′ .offset) run′ rest′
 
 module _ (dir : TransferDirection) (n len : ℕ) (b : List ℕ) where
   -- nothing is handed over
   stays : (ds : List DmaDescriptor) (m m′ : Moved) (run rest : List Cell) → m′ .at ≡ m .at → m′ .back ≡ m .back → m .offset + m .rest ≡ m′ .offset + m′ .rest → m′ .rest ≤ m .rest
-      → (m′ .rest ≡ 0) ⊎ (run ≡ []) → Parted dir n len ds b (m′ .at) (m′ .offset) run rest → Walked dir n len b ds m m′ run rest
+      → Parted dir n len ds b (m′ .at) (m′ .offset) run rest → Walked dir n len b ds m m′ run rest
   unfolding turns
-  stays ds m m′ run rest ea eb sum less end s =
+  stays ds m m′ run rest ea eb sum less s =
       record {
         used = [];
         run′ = run;
@@ -93,17 +92,16 @@ module _ (dir : TransferDirection) (n len : ℕ) (b : List ℕ) where
         back = omega arith;
         counted = omega arith;
         fewer = less;
-        ended = end;
         parted = s;
       }
 
   halts : (ds : List DmaDescriptor) (m : Moved) (rest : List Cell) → Parted dir n len ds b (m .at) (m .offset) [] rest → Walked dir n len b ds m m [] rest
-  halts ds m rest s = stays ds m m [] rest refl refl refl (omega arith) (inr refl) s
+  halts ds m rest s = stays ds m m [] rest refl refl refl (omega arith) s
 
   enters : (ds : List DmaDescriptor) (m : Moved) (x : Cell) (run rest : List Cell) → Parted dir n len ds b (m .at) (m .offset) (x ∷ run) rest
       → m .offset + m .rest < length (x .held) → Walked dir n len b ds m (inside m) (x ∷ run) rest
   enters ds m x run rest s h =
-      stays ds m (inside m) (x ∷ run) rest refl refl (omega arith) (omega arith) (inl refl) record {
+      stays ds m (inside m) (x ∷ run) rest refl refl (omega arith) (omega arith) record {
         stored = s .stored;
         seen = s .seen;
         cpus = s .cpus;
@@ -140,7 +138,6 @@ module _ (dir : TransferDirection) (n len : ℕ) (b : List ℕ) where
         counted = past-sum (m .offset) (m .rest) (spanOf dir (f (m .at))) (length (x .held)) (length (cat (w .used))) (m′ .offset) (m′ .rest) e h l (w .counted)
             ∙ ap (λ (k : ℕ). k + (m′ .offset + m′ .rest)) (sym (length-append (x .held) (cat (w .used))));
         fewer = omega (arith, w .fewer);
-        ended = w .ended;
         parted = w .parted;
       }
 
@@ -246,16 +243,3 @@ module _ (dir : TransferDirection) (len : ℕ) (r : Ring) (b : List ℕ) (run re
     standing-rest =
         sym (drop-append-add (cat (w .used)) (cat (w .run′)) (planned dir r k .offset)) ∙ ap (λ (l : List ℕ). drop (length (cat (w .used)) + planned dir r k .offset) l) (sym run-parts)
         ∙ ap (λ (m : ℕ). drop m (cat run)) (sym taken-sum) ∙ sym (drop-drop (takenIn dir r k) (r .offset) (cat run)) ∙ ap (drop (takenIn dir r k)) (sym standing-run)
-
-    -- "takes min(k, available)"
-    taken-end : (planned dir r k .rest ≡ 0) ⊎ (w .run′ ≡ []) → takenIn dir r k ≡ min k (availableIn dir r)
-    taken-end (inl e) = omega (arith, available-run, taken-standing)
-    taken-end (inr e) =
-        let z : length (cat (w .run′)) ≡ 0 = ap (λ (l : List Cell). length (cat l)) e in
-        let o : planned dir r k .offset ≤ length (cat (w .run′)) = inside-cat (planned dir r k .offset) (w .run′) (w .parted .offset) in
-        let l : length (cat run) ≡ length (cat (w .used)) + length (cat (w .run′)) = ap length run-parts ∙ length-append (cat (w .used)) (cat (w .run′)) in
-        let d : length (standing dir r b) ≡ length (cat run) - r .offset = ap length standing-run ∙ length-drop (r .offset) (cat run) in
-        omega (arith, available-run, taken-sum, w .fewer)
-
-    pub taken-min : takenIn dir r k ≡ min k (availableIn dir r)
-    taken-min = taken-end (w .ended)

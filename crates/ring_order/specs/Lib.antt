@@ -1,12 +1,16 @@
 pub mod Places
+pub mod Tally
 pub mod Lists
 pub mod Tests
 pub mod Geometry
 pub mod Shape
 pub mod Stores
+pub mod Rows
 pub mod View
 pub mod Queue
 pub mod Give
 pub mod Skeleton
 pub mod Order
 pub mod Begin
+pub mod Handing
+pub mod Walking

@@ -70,3 +70,21 @@ module _ {A : Type 0} where
   pub tab-snoc : (n : ℕ) (f : ℕ → A) → tab (suc n) f ≡ tab n f ++ (f n ∷ [])
   tab-snoc zero f = refl
   tab-snoc (suc n) f = cons-both refl (tab-snoc n (λ i. f (suc i)))
+
+-- ---- lists none of which is empty
+
+abbrev pub Somes : List (List ℕ) → Type 0
+Somes [] = Unit {0}
+Somes (l ∷ ls) = (0 < length l) × Somes ls
+
+pub somes-append : (ks ls : List (List ℕ)) → Somes ks → Somes ls → Somes (ks ++ ls)
+somes-append [] ls h k = k
+somes-append (x ∷ ks) ls h k = (h .0, somes-append ks ls (h .1) k)
+
+pub somes-first : (ks ls : List (List ℕ)) → Somes (ks ++ ls) → Somes ks
+somes-first [] ls h = tt
+somes-first (x ∷ ks) ls h = (h .0, somes-first ks ls (h .1))
+
+pub somes-rest : (ks ls : List (List ℕ)) → Somes (ks ++ ls) → Somes ls
+somes-rest [] ls h = h
+somes-rest (x ∷ ks) ls h = somes-rest ks ls (h .1)

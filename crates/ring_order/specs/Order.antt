@@ -7,11 +7,11 @@ use mathlib.Core.List.{List, [], _∷_, _++_, append-assoc, append-nil, map-appe
 use Prim.Native.Nat.{ℕ, zero, suc, _+_, _≤_, _<_}
 use native.Mathlib.Nat.{zero-add, add-zero}
 use native.Mathlib.Omega.{arith}
-use lib.Dec.{eqb, ltb}
+use lib.Dec.{eqb}
 use lib.ListN.{length, length-append}
 use lib.Seq.{append-snoc}
 use borrow.Author.Tests.{lt-ltb, eq-eqb}
-use Rattle.descriptors.specs.Record.{recordIn, isCpu, spanOf}
+use Rattle.descriptors.specs.Record.{recordIn, spanOf}
 use Rattle.descriptors.specs.Place.{after, turns}
 use Rattle.descriptors.specs.Ring.{Ring, recordOf, withRecords, offsetOk, sound}
 use Rattle.descriptors.specs.Walk.{handOver, begun, planned, movedTo, advanced}
@@ -21,9 +21,10 @@ use Rattle.descriptors.specs.declared.record.Next.the-variants.{Nothing, At}
 use Rattle.descriptors.specs.declared.record.DmaDescriptor.{DmaDescriptor}
 use Rattle.descriptors.specs.declared.record.TransferDirection.{TransferDirection}
 use Rattle.descriptors.specs.declared.record.TransferDirection.the-variants.{In, Out}
+use Rattle.descriptors.specs.laws.Tests.{and-join}
 use Rattle.ring_order.specs.Places.{place, place-lt, place-onto, after-place, turn, turn-suc}
 use Rattle.ring_order.specs.Lists.{tab}
-use Rattle.ring_order.specs.Tests.{and-in, or-left, or-right, cpu-test, cpu-not-dma}
+use Rattle.ring_order.specs.Tests.{or-left, or-right, cpu-test, cpu-not-dma}
 use Rattle.ring_order.specs.Shape.{Shape, of-sound}
 use Rattle.ring_order.specs.View.{Cell, cellIn, view, own, placed-at, cursor-cell, view-tab, view-change}
 use Rattle.ring_order.specs.Queue.{idxs, owners, first, Cpus, Linked, Inside, cpus-snoc, inside-snoc, Stored, Parted, ground, exact, parts-length}
@@ -50,11 +51,11 @@ pub record Order (dir : TransferDirection) (len : ℕ) (r : Ring) (b : List ℕ)
 
 offset-none : (dir : TransferDirection) (d : DmaDescriptor) (o : ℕ) → o ≡ 0 → 0 < d .size → offsetOk dir d o ≡ true
 offset-none In d o e h = or-left (eqb o 0) _ (eq-eqb o 0 e)
-offset-none Out d o e h = and-in (ltb o (d .size)) _ (lt-ltb o (d .size) (omega arith)) (or-left (eqb o 0) _ (eq-eqb o 0 e))
+offset-none Out d o e h = and-join (lt-ltb o (d .size) (omega arith)) (or-left (eqb o 0) _ (eq-eqb o 0 e))
 
 offset-some : (dir : TransferDirection) (d : DmaDescriptor) (o : ℕ) → d .owner ≡ Cpu → o < spanOf dir d → offsetOk dir d o ≡ true
-offset-some In d o e h = or-right (eqb o 0) _ (and-in (isCpu (d .owner)) _ (cpu-test (d .owner) e) (lt-ltb o (d .length) h))
-offset-some Out d o e h = and-in (ltb o (d .size)) _ (lt-ltb o (d .size) h) (or-right (eqb o 0) _ (cpu-test (d .owner) e))
+offset-some In d o e h = or-right (eqb o 0) _ (and-join (cpu-test (d .owner) e) (lt-ltb o (d .length) h))
+offset-some Out d o e h = and-join (lt-ltb o (d .size) h) (or-right (eqb o 0) _ (cpu-test (d .owner) e))
 
 module _ (dir : TransferDirection) (n len : ℕ) (ds : List DmaDescriptor) (b : List ℕ) (c o : ℕ) where
   cursor-room : Stored n len ds b c → 0 < recordIn ds c .size
@@ -155,6 +156,19 @@ module _ (dir : TransferDirection) (len : ℕ) (r : Ring) (b : List ℕ) (dev : 
             ap (place (r .count) (r .idx)) (let z : length run + 1 ≡ suc (length run) = omega arith in length-append run (y ∷ []) ∙ z)
             ∙ sym (after-place (r .count) (r .idx) (length run) (s .stored .cursor) (omega arith)) ∙ ap (after (r .count)) (o .turned) ∙ sym (turn-suc (r .count) t);
       }
+
+-- no first record: none is queued
+pub first-none : (xs : List Cell) → first (idxs xs) ≡ Nothing → length xs ≡ 0
+first-none [] e = refl
+first-none (x ∷ xs) e = absurd (stopped-not (At (x .idx)) (x .idx) refl e)
+
+-- the device stands on one of the ring's records
+pub stands-below : (dir : TransferDirection) (len : ℕ) (r : Ring) (b : List ℕ) (dev : Next) (t : ℕ) (run rest : List Cell) → Order dir len r b dev t run rest
+    → (i : ℕ) → dev ≡ At i → i < r .count
+stands-below dir len r b dev t run rest o i d =
+    let h = head-at dir len r b dev t run rest o i d in
+    subst (λ (j : ℕ). j < r .count) (sym (h .number))
+    (head-stored dir len r b dev t run (h .head) (h .behind) (subst (Order dir len r b dev t run) (h .queue) o) .0)
 
 -- ---- whose a record is
 

@@ -181,7 +181,7 @@ after-mod-at n k {p} (on h e) hn =
     let z : p ≡ suc (k % n) = omega arith in
     z ∙ sym (suc-mod k n ∙ mod-eq-of-lt q)
 
--- "the k-th .. is on record k mod n"
+-- round and round k times is k mod n
 pub turn-mod : (n k : ℕ) → 0 < n → turn n k ≡ k % n
 unfolding turn
 turn-mod n zero h = sym (zero-mod n)

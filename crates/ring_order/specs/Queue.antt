@@ -152,32 +152,32 @@ cpu-run [] (y ∷ ys) a l = ap (λ (t : Bool). cond t (y ∷ cpuRun ys) []) (dma
 cpu-run (x ∷ xs) rest a l =
     ap (λ (t : Bool). cond t (x ∷ cpuRun (xs ++ rest)) []) (cpu-test (x .desc .owner) (a .0)) ∙ ap (λ (r : List Cell). x ∷ r) (cpu-run xs rest (a .1) l)
 
-abbrev spanned : TransferDirection → List Cell → ℕ
-spanned dir [] = 0
-spanned dir (x ∷ xs) = spanOf dir (x .desc) + spanned dir xs
+abbrev pub spans : TransferDirection → List Cell → ℕ
+spans dir [] = 0
+spans dir (x ∷ xs) = spanOf dir (x .desc) + spans dir xs
 
 cat-cond : (t : Bool) (x : Cell) (xs : List Cell) → cond t (x .held ++ cat xs) [] ≡ cat (cond t (x ∷ xs) [])
 cat-cond true x xs = refl
 cat-cond false x xs = refl
 
-spanned-cond : (dir : TransferDirection) (t : Bool) (x : Cell) (xs : List Cell) → cond t (spanOf dir (x .desc) + spanned dir xs) 0 ≡ spanned dir (cond t (x ∷ xs) [])
-spanned-cond dir true x xs = refl
-spanned-cond dir false x xs = refl
+spans-cond : (dir : TransferDirection) (t : Bool) (x : Cell) (xs : List Cell) → cond t (spanOf dir (x .desc) + spans dir xs) 0 ≡ spans dir (cond t (x ∷ xs) [])
+spans-cond dir true x xs = refl
+spans-cond dir false x xs = refl
 
 module _ (dir : TransferDirection) (ds : List DmaDescriptor) (b : List ℕ) (n : ℕ) where
-  data-run : (k i : ℕ) → runData dir (recordIn ds) b n k i ≡ cat (cpuRun (round (cellIn dir ds b) n k i))
+  pub data-run : (k i : ℕ) → runData dir (recordIn ds) b n k i ≡ cat (cpuRun (round (cellIn dir ds b) n k i))
   unfolding runData round
   data-run zero i = refl
   data-run (suc k) i =
       ap (λ (r : List ℕ). cond (isCpu (recordIn ds i .owner)) (heldBy dir b (recordIn ds i) ++ r) []) (data-run k (after n i))
       ∙ cat-cond (isCpu (recordIn ds i .owner)) (cellIn dir ds b i) (cpuRun (round (cellIn dir ds b) n k (after n i)))
 
-  bytes-run : (k i : ℕ) → runBytes dir (recordIn ds) n k i ≡ spanned dir (cpuRun (round (cellIn dir ds b) n k i))
+  pub bytes-run : (k i : ℕ) → runBytes dir (recordIn ds) n k i ≡ spans dir (cpuRun (round (cellIn dir ds b) n k i))
   unfolding runBytes round
   bytes-run zero i = refl
   bytes-run (suc k) i =
       ap (λ (r : ℕ). cond (isCpu (recordIn ds i .owner)) (spanOf dir (recordIn ds i) + r) 0) (bytes-run k (after n i))
-      ∙ spanned-cond dir (isCpu (recordIn ds i .owner)) (cellIn dir ds b i) (cpuRun (round (cellIn dir ds b) n k (after n i)))
+      ∙ spans-cond dir (isCpu (recordIn ds i .owner)) (cellIn dir ds b i) (cpuRun (round (cellIn dir ds b) n k (after n i)))
 
 -- ---- a ring in two parts
 
@@ -217,10 +217,10 @@ module _ (dir : TransferDirection) (n len : ℕ) (ds : List DmaDescriptor) (b : 
   pub exact : Stored n len ds b c → (p q : List Cell) (x : Cell) → view dir n ds b c ≡ p ++ x ∷ q → length (x .held) ≡ spanOf dir (x .desc)
   exact s p q x v = let (h, e) = own dir n ds b c (s .cursor) p q x v in rw e (held-span s (x .idx) h)
 
-  spanned-cat : Stored n len ds b c → (p xs q : List Cell) → view dir n ds b c ≡ p ++ (xs ++ q) → spanned dir xs ≡ length (cat xs)
-  spanned-cat s p [] q v = refl
-  spanned-cat s p (x ∷ xs) q v =
-      simp length-append (omega (arith, exact s p (xs ++ q) x v, spanned-cat s (p ++ (x ∷ [])) xs q (v ∙ sym (append-assoc p (x ∷ []) (xs ++ q)))))
+  spans-cat : Stored n len ds b c → (p xs q : List Cell) → view dir n ds b c ≡ p ++ (xs ++ q) → spans dir xs ≡ length (cat xs)
+  spans-cat s p [] q v = refl
+  spans-cat s p (x ∷ xs) q v =
+      simp length-append (omega (arith, exact s p (xs ++ q) x v, spans-cat s (p ++ (x ∷ [])) xs q (v ∙ sym (append-assoc p (x ∷ []) (xs ++ q)))))
 
   module _ (o : ℕ) (run rest : List Cell) (s : Parted dir n len ds b c o run rest) where
     -- the bytes of the run are those that the rules show
@@ -229,8 +229,8 @@ module _ (dir : TransferDirection) (n len : ℕ) (ds : List DmaDescriptor) (b : 
 
     pub run-bytes : runBytes dir (recordIn ds) n n c ≡ length (cat run)
     run-bytes =
-        bytes-run dir ds b n n c ∙ ap (λ (v : List Cell). spanned dir (cpuRun v)) (s .seen) ∙ ap (spanned dir) (cpu-run run rest (s .cpus) (s .linked))
-        ∙ spanned-cat (s .stored) [] run rest (s .seen)
+        bytes-run dir ds b n n c ∙ ap (λ (v : List Cell). spans dir (cpuRun v)) (s .seen) ∙ ap (spans dir) (cpu-run run rest (s .cpus) (s .linked))
+        ∙ spans-cat (s .stored) [] run rest (s .seen)
 
     pub parts-length : length run + length rest ≡ n
     parts-length = sym (length-append run rest) ∙ ap length (sym (s .seen)) ∙ view-length dir n ds b c (s .stored .cursor)

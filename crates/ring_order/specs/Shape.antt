@@ -11,11 +11,10 @@ use borrow.Author.Tests.{ltb-true, leb-true, eqb-true, lt-ltb, le-leb, eq-eqb}
 use Rattle.descriptors.specs.Record.{blank, recordIn}
 use Rattle.descriptors.specs.Split.{accepts, startOf, sizeOf}
 use Rattle.descriptors.specs.Ring.{Ring, recordOf, startsOk, sizesOk, lengthsOk, below, nextsOk, offsetOk, splitSound, sound}
-use Rattle.descriptors.specs.laws.Tests.{all-at, all-of}
+use Rattle.descriptors.specs.laws.Tests.{and-split, and-join, all-at, all-of}
 use Rattle.descriptors.specs.declared.record.DmaDescriptor.{DmaDescriptor}
 use Rattle.descriptors.specs.declared.record.TransferDirection.{TransferDirection}
 use Rattle.ring_order.specs.Geometry.{Geometry, geometry, apart}
-use Rattle.ring_order.specs.Tests.{and-out, and-in}
 
 -- "starts and sizes are that split"
 pub record Laid (n len : ℕ) (ds : List DmaDescriptor) : Type 0 where
@@ -50,9 +49,9 @@ enough-at n len ds G s (no h) =
 pub laid-of : (r : Ring) (len : ℕ) → splitSound r len ≡ true → Laid (r .count) len (r .descriptors) × (r .prefilled ≤ len)
 unfolding splitSound
 laid-of r len h =
-    let (a, h₁) = and-out (accepts (r .count) len) _ h in
-    let (s, h₂) = and-out (startsOk (r .descriptors) (r .count) len) _ h₁ in
-    let (z, p) = and-out (sizesOk (r .descriptors) (r .count) len) _ h₂ in
+    let (a, h₁) = and-split (accepts (r .count) len) _ h in
+    let (s, h₂) = and-split (startsOk (r .descriptors) (r .count) len) _ h₁ in
+    let (z, p) = and-split (sizesOk (r .descriptors) (r .count) len) _ h₂ in
     let start : (i : ℕ) → i < r .count → recordIn (r .descriptors) i .buffer ≡ startOf (r .count) len i =
     λ i l. eqb-true _ _ (all-at _ (r .count) i s l) in (
       record {
@@ -67,17 +66,17 @@ laid-of r len h =
 pub of-laid : (r : Ring) (len : ℕ) → Laid (r .count) len (r .descriptors) → r .prefilled ≤ len → splitSound r len ≡ true
 unfolding splitSound
 of-laid r len l p =
-    and-in (accepts (r .count) len) _ (l .accepted)
-    (and-in (startsOk (r .descriptors) (r .count) len) _ (all-of _ (r .count) (λ i h. eq-eqb _ _ (l .start i h)))
-    (and-in (sizesOk (r .descriptors) (r .count) len) _ (all-of _ (r .count) (λ i h. eq-eqb _ _ (l .room i h))) (le-leb (r .prefilled) len p)))
+    and-join (l .accepted)
+    (and-join (all-of _ (r .count) (λ i h. eq-eqb _ _ (l .start i h)))
+    (and-join (all-of _ (r .count) (λ i h. eq-eqb _ _ (l .room i h))) (le-leb (r .prefilled) len p)))
 
 pub sound-of : (dir : TransferDirection) (r : Ring) (len : ℕ) → sound dir r len ≡ true → Sound dir r len
 unfolding sound
 sound-of dir r len h =
-    let (s, h₁) = and-out (splitSound r len) _ h in
-    let (l, h₂) = and-out (lengthsOk (r .descriptors) (r .count)) _ h₁ in
-    let (x, h₃) = and-out (nextsOk (r .descriptors) (r .count)) _ h₂ in
-    let (c, o) = and-out (ltb (r .idx) (r .count)) _ h₃ in
+    let (s, h₁) = and-split (splitSound r len) _ h in
+    let (l, h₂) = and-split (lengthsOk (r .descriptors) (r .count)) _ h₁ in
+    let (x, h₃) = and-split (nextsOk (r .descriptors) (r .count)) _ h₂ in
+    let (c, o) = and-split (ltb (r .idx) (r .count)) _ h₃ in
     let (d, p) = laid-of r len s in
     record {
       shape = record { laid = d; lengths = λ i m. leb-true _ _ (all-at _ (r .count) i l m); nexts = λ i m. all-at _ (r .count) i x m };
@@ -89,7 +88,7 @@ sound-of dir r len h =
 pub of-sound : (dir : TransferDirection) (r : Ring) (len : ℕ) → Sound dir r len → sound dir r len ≡ true
 unfolding sound
 of-sound dir r len s =
-    and-in (splitSound r len) _ (of-laid r len (s .shape .laid) (s .prefilled))
-    (and-in (lengthsOk (r .descriptors) (r .count)) _ (all-of _ (r .count) (λ i m. le-leb _ _ (s .shape .lengths i m)))
-    (and-in (nextsOk (r .descriptors) (r .count)) _ (all-of _ (r .count) (s .shape .nexts))
-    (and-in (ltb (r .idx) (r .count)) _ (lt-ltb (r .idx) (r .count) (s .cursor)) (s .offset))))
+    and-join (of-laid r len (s .shape .laid) (s .prefilled))
+    (and-join (all-of _ (r .count) (λ i m. le-leb _ _ (s .shape .lengths i m)))
+    (and-join (all-of _ (r .count) (s .shape .nexts))
+    (and-join (lt-ltb (r .idx) (r .count) (s .cursor)) (s .offset))))

@@ -9,11 +9,11 @@ use native.Mathlib.Omega.{arith}
 use native.Mathlib.Decide.{ℕ-discrete}
 use lib.ListN.{length}
 use borrow.Author.Tests.{lt-ltb}
-use Rattle.descriptors.specs.Record.{recordIn, update, upTo, withNext, handed}
+use Rattle.descriptors.specs.Record.{recordIn, update, withNext, handed}
 use Rattle.descriptors.specs.Place.{before}
 use Rattle.descriptors.specs.Ring.{below}
 use Rattle.descriptors.specs.Walk.{handOver}
-use Rattle.descriptors.specs.laws.Updates as laws
+use Rattle.descriptors.specs.laws.Updates.{update-same, update-other, update-length}
 use Rattle.descriptors.specs.declared.record.Owner.the-variants.{Dma}
 use Rattle.descriptors.specs.declared.record.Next.the-variants.{Nothing, At}
 use Rattle.descriptors.specs.declared.record.DmaDescriptor.{DmaDescriptor}
@@ -21,30 +21,6 @@ use Rattle.descriptors.specs.declared.record.TransferDirection.{TransferDirecti
 use Rattle.descriptors.specs.declared.record.TransferDirection.the-variants.{In, Out}
 use Rattle.ring_order.specs.Places.{before-lt, before-ne}
 use Rattle.ring_order.specs.Shape.{Laid, Shape}
-
--- ---- one record changed
-
-module _ (ds : List DmaDescriptor) (i : ℕ) (f : DmaDescriptor → DmaDescriptor) where
-  pub update-same : i < length ds → recordIn (update ds i f) i ≡ f (recordIn ds i)
-  update-same h = laws.update-same ds i f h
-
-  pub update-other : (j : ℕ) → j ≢ i → recordIn (update ds i f) j ≡ recordIn ds j
-  update-other j ne = laws.update-other ds i j f ne
-
-  pub update-length : length (update ds i f) ≡ length ds
-  update-length = laws.update-length ds i f
-
--- ---- the first k records, each changed by its own rule
-
-module _ (g : ℕ → DmaDescriptor → DmaDescriptor) (ds : List DmaDescriptor) where
-  pub each-length : (k : ℕ) → length (upTo (λ i s. update s i (g i)) k ds) ≡ length ds
-  each-length k = laws.each-length g k ds
-
-  pub each-other : (k j : ℕ) → k ≤ j → recordIn (upTo (λ i s. update s i (g i)) k ds) j ≡ recordIn ds j
-  each-other k j h = laws.each-above g k ds j h
-
-  pub each-same : (k j : ℕ) → j < k → k ≤ length ds → recordIn (upTo (λ i s. update s i (g i)) k ds) j ≡ g j (recordIn ds j)
-  each-same k j h l = laws.each-at g k ds j h l
 
 -- e may stand where d stood
 pub record Fits (n : ℕ) (d e : DmaDescriptor) : Type 0 where
@@ -81,7 +57,7 @@ shape-update n len ds i f s hi h = shape-keeps n len ds (update ds i f) (s .laid
   where
     go : (j : ℕ) → j < n → Dec (j ≡ i) → Fits n (recordIn ds j) (recordIn (update ds i f) j)
     go j hj (yes e) = rw (e, update-same ds i f (omega (arith, s .laid .enough))) h
-    go j hj (no ne) = rw (update-other ds i f j ne) (fits-itself n len ds s j hj)
+    go j hj (no ne) = rw (update-other ds i j f ne) (fits-itself n len ds s j hj)
 
 pub handed-fits : (dir : TransferDirection) (n : ℕ) (d : DmaDescriptor) → Fits n d (handed dir d)
 handed-fits In n d = record { start = refl; room = refl; length = omega arith; next = refl }
@@ -101,17 +77,21 @@ module _ (dir : TransferDirection) (n : ℕ) (ds : List DmaDescriptor) (c : ℕ)
   pub hand-same : recordIn (handOver dir n c ds) c ≡ handed dir (recordIn ds c)
   unfolding handOver
   hand-same =
-      update-other (update ds c (handed dir)) (before n c) (withNext (At c)) c (λ q. before-ne n c two (sym q)) ∙ update-same ds c (handed dir) (omega arith)
+      update-other (update ds c (handed dir)) (before n c) c (withNext (At c)) (λ q. before-ne n c two (sym q)) ∙ update-same ds c (handed dir) (omega arith)
 
   pub hand-before : recordIn (handOver dir n c ds) (before n c) ≡ withNext (At c) (recordIn ds (before n c))
   unfolding handOver
   hand-before =
       update-same (update ds c (handed dir)) (before n c) (withNext (At c)) (omega (arith, before-lt n c hc, update-length ds c (handed dir)))
-      ∙ ap (withNext (At c)) (update-other ds c (handed dir) (before n c) (before-ne n c two))
+      ∙ ap (withNext (At c)) (update-other ds c (before n c) (handed dir) (before-ne n c two))
 
   pub hand-other : (j : ℕ) → j ≢ c → j ≢ before n c → recordIn (handOver dir n c ds) j ≡ recordIn ds j
   unfolding handOver
-  hand-other j nc nb = update-other (update ds c (handed dir)) (before n c) (withNext (At c)) j nb ∙ update-other ds c (handed dir) j nc
+  hand-other j nc nb = update-other (update ds c (handed dir)) (before n c) j (withNext (At c)) nb ∙ update-other ds c j (handed dir) nc
+
+pub hand-length : (dir : TransferDirection) (n c : ℕ) (ds : List DmaDescriptor) → length (handOver dir n c ds) ≡ length ds
+unfolding handOver
+hand-length dir n c ds = update-length (update ds c (handed dir)) (before n c) (withNext (At c)) ∙ update-length ds c (handed dir)
 
 pub shape-hand : (dir : TransferDirection) (n len : ℕ) (ds : List DmaDescriptor) (c : ℕ) → Shape n len ds → c < n → Shape n len (handOver dir n c ds)
 unfolding handOver

@@ -1,11 +1,10 @@
 -- What tests tell: of two tests, and of the owner.
 use mathlib.Core.Path.{_≡_, refl, ap}
-use mathlib.Core.Bool.{Bool, true, false, _&&_, _||_}
+use mathlib.Core.Bool.{Bool, true, false, _||_}
 use mathlib.Core.Logic.{_⊎_, inl, inr}
 use Prim.Native.Nat.{ℕ}
 use native.Mathlib.Omega.{arith}
 use Rattle.descriptors.specs.Record.{isCpu}
-use Rattle.descriptors.specs.laws.Tests as laws
 use Rattle.descriptors.specs.declared.record.Owner.{Owner}
 use Rattle.descriptors.specs.declared.record.Owner.the-variants.{Cpu, Dma}
 
@@ -15,12 +14,6 @@ bool-cases false = inr refl
 
 pub true-not-false : (b : Bool) → b ≡ true → b ≡ false → ⊥
 true-not-false b p q = let z : _≡_ {A = ℕ} 0 1 = cc in omega arith
-
-pub and-out : (a b : Bool) → (a && b) ≡ true → (a ≡ true) × (b ≡ true)
-and-out a b e = laws.and-split a b e
-
-pub and-in : (a b : Bool) → a ≡ true → b ≡ true → (a && b) ≡ true
-and-in a b p q = laws.and-join p q
 
 pub or-out : (a b : Bool) → (a || b) ≡ true → (a ≡ true) ⊎ (b ≡ true)
 or-out true b e = inl refl

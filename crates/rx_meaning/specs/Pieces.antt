@@ -10,8 +10,10 @@ use lib.ListN.{length, take, drop}
 use lib.Seq.{drop-cons, drop-length, getD-take, length-take-le}
 use Rattle.descriptors.specs.Record.{blank, recordIn, isCpu}
 use Rattle.descriptors.specs.declared.record.DmaDescriptor.{DmaDescriptor}
+use Rattle.descriptors.specs.declared.record.TransferDirection.the-variants.{In}
 use Rattle.rx_stream.specs.Receive.{endsWith, flatBytes, flatEof}
-use Rattle.rx_meaning.specs.Words.{total, onePiece, lastEof}
+use Rattle.ring_order.specs.Rows.{total}
+use Rattle.rx_meaning.specs.Words.{onePiece, lastEof}
 
 module _ (ds : List DmaDescriptor) (n : ℕ) (l : n ≤ length ds) where
   opened : (i : ℕ) → i < n → drop i (take n ds) ≡ recordIn ds i ∷ drop (i + 1) (take n ds)
@@ -25,14 +27,14 @@ module _ (ds : List DmaDescriptor) (n : ℕ) (l : n ≤ length ds) where
       let z : i ≡ length (take n ds) = e ∙ sym (length-take-le n ds l) in
       rw z (drop-length (take n ds))
 
-  pub piece-bytes : (u : Bool) (k i : ℕ) → i + k ≡ n → flatBytes u (recordIn ds) k i ≡ total (onePiece u (drop i (take n ds)))
+  pub piece-bytes : (u : Bool) (k i : ℕ) → i + k ≡ n → flatBytes u (recordIn ds) k i ≡ total In (onePiece u (drop i (take n ds)))
   unfolding flatBytes
   piece-bytes u zero i e = rw (ended i (omega arith)) refl
   piece-bytes u (suc k) i e = rw (opened i (omega arith)) (go (isCpu (recordIn ds i .owner)) (endsWith u (recordIn ds i)) (piece-bytes u k (i + 1) (omega arith)))
     where
-      go : (a t : Bool) → flatBytes u (recordIn ds) k (i + 1) ≡ total (onePiece u (drop (i + 1) (take n ds)))
+      go : (a t : Bool) → flatBytes u (recordIn ds) k (i + 1) ≡ total In (onePiece u (drop (i + 1) (take n ds)))
           → cond a (recordIn ds i .length + cond t 0 (flatBytes u (recordIn ds) k (i + 1))) 0
-          ≡ total (cond a (recordIn ds i ∷ cond t [] (onePiece u (drop (i + 1) (take n ds)))) [])
+          ≡ total In (cond a (recordIn ds i ∷ cond t [] (onePiece u (drop (i + 1) (take n ds)))) [])
       go true true h = refl
       go true false h = rw h refl
       go false t h = refl

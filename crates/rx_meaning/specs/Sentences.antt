@@ -18,10 +18,10 @@ use Rattle.rx_stream.specs.declared.Took.the-variants as took
 use Rattle.rx_stream.specs.declared.Ended.the-variants as ended
 use Rattle.rx_stream.specs.laws.Answers.{available-done, peek-done, peek-eof-done, consume-done, pop-idle, pop-done, popped-idle, popped-done}
 use Rattle.ring_order.specs.Shape.{Sound, sound-of}
+use Rattle.ring_order.specs.Rows.{total, turned, cpuOwned, available-row}
 use Rattle.sound_ring.specs.Counts.{countBelow}
 use Rattle.sound_ring.specs.Laws.{wentOver, as-many, takes-min, stands-less, as-many-went, device-or-more, still-sound}
-use Rattle.rx_meaning.specs.Words.{total, turned, cpuRun, onePiece, lastEof}
-use Rattle.rx_meaning.specs.Order.{in-ring-order}
+use Rattle.rx_meaning.specs.Words.{onePiece, lastEof}
 use Rattle.rx_meaning.specs.Pieces.{piece-bytes, piece-eof}
 
 -- the bytes put over the front of a destination
@@ -44,15 +44,14 @@ module _ (r : Ring) (len : ℕ) (s : sound In r len ≡ true) where
   enough = facts .shape .laid .enough
 
   -- "`available_bytes`: lengths from the cursor round the ring up to the first DMA-owned record, less offset"
-  pub available-bytes : availableOf r len ≡ counted.Bytes (total (cpuRun (turned (r .descriptors) (r .count) (r .idx))) - r .offset)
-  unfolding availableIn
-  available-bytes = available-done r len s ∙ ap (λ (k : ℕ). counted.Bytes (k - r .offset)) (in-ring-order (r .descriptors) (r .count) (r .idx) enough (facts .cursor))
+  pub available-bytes : availableOf r len ≡ counted.Bytes (total In (cpuOwned (turned (r .descriptors) (r .count) (r .idx))) - r .offset)
+  available-bytes = available-done r len s ∙ ap counted.Bytes (available-row In r enough (facts .cursor))
 
   -- "`peek`: .. the bytes from the cursor on, through records while each is full, ending with the first short one, before a DMA-owned
   -- one, or at record n-1"
   pub peek : (untilEof : Bool) (b : List ℕ) → length b ≡ len
       → peekOf untilEof r b
-      ≡ take (total (onePiece untilEof (drop (r .idx) (take (r .count) (r .descriptors)))) - r .offset) (drop (recordOf r (r .idx) .buffer + r .offset) b)
+      ≡ take (total In (onePiece untilEof (drop (r .idx) (take (r .count) (r .descriptors)))) - r .offset) (drop (recordOf r (r .idx) .buffer + r .offset) b)
   peek u b w =
       peek-done r b u (ap (λ (m : ℕ). sound In r m) w ∙ s)
       ∙ ap (λ (k : ℕ). take (k - r .offset) (drop (peekFrom r) b)) (piece-bytes (r .descriptors) (r .count) enough u (r .count - r .idx) (r .idx) (omega (arith, facts .cursor)))

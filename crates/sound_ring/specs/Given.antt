@@ -7,18 +7,18 @@ use mathlib.Core.List.{List, [], _++_}
 use native.Mathlib.Omega.{arith}
 use native.Mathlib.Decide.{ℕ-discrete}
 use lib.ListN.{length, take, drop}
-use Rattle.descriptors.specs.Record.{recordIn, isCpu, spanOf, handed, withNext, update}
+use Rattle.descriptors.specs.Record.{recordIn, isCpu, spanOf, handed, withNext}
 use Rattle.descriptors.specs.Place.{after, before, turns}
 use Rattle.descriptors.specs.Walk.{runData, handOver}
 use Rattle.descriptors.specs.declared.record.Owner.{Owner}
-use Rattle.descriptors.specs.declared.record.Next.the-variants.{Nothing, At}
+use Rattle.descriptors.specs.declared.record.Next.the-variants.{Nothing}
 use Rattle.descriptors.specs.declared.record.DmaDescriptor.{DmaDescriptor}
 use Rattle.descriptors.specs.declared.record.TransferDirection.{TransferDirection}
 use Rattle.descriptors.specs.declared.record.TransferDirection.the-variants.{In, Out}
 use Rattle.ring_order.specs.Places.{place, place-inj, place-zero, place-after, after-place, place-after-last, after-lt}
 use Rattle.ring_order.specs.Tests.{dma-test}
 use Rattle.ring_order.specs.Shape.{Shape}
-use Rattle.ring_order.specs.Stores.{hand-same, hand-before, hand-other, handed-dma, shape-hand, update-length}
+use Rattle.ring_order.specs.Stores.{hand-same, hand-before, hand-other, handed-dma, hand-length, shape-hand}
 
 -- a record without its link
 abbrev pub bare : DmaDescriptor → DmaDescriptor
@@ -45,10 +45,6 @@ place-round n c h =
     ap (place n c) (sym z) ∙ sym (place-after n c (n - 1) h (omega arith)) ∙ place-after-last n c h
 
 module _ (dir : TransferDirection) (n : ℕ) (two : 2 ≤ n) where
-  hand-length : (c : ℕ) (ds : List DmaDescriptor) → length (handOver dir n c ds) ≡ length ds
-  unfolding handOver
-  hand-length c ds = update-length (update ds c (handed dir)) (before n c) (withNext (At c)) ∙ update-length ds c (handed dir)
-
   hand-bare : (ds : List DmaDescriptor) (c j : ℕ) → c < n → n ≤ length ds → j ≢ c → bare (recordIn (handOver dir n c ds) j) ≡ bare (recordIn ds j)
   hand-bare ds c j hc hl ne = go (ℕ-discrete j (before n c))
     where
@@ -94,7 +90,7 @@ module _ (dir : TransferDirection) (n : ℕ) (two : 2 ≤ n) where
   handed-over : (g c : ℕ) (ds : List DmaDescriptor) → c < n → g ≤ n → n ≤ length ds → After g c ds
   handed-over zero c ds hc hg hl = record { gone = λ d l. absurd (omega arith); kept = λ d l h. unfold turns in refl }
   handed-over (suc g) c ds hc hg hl =
-      let ih = handed-over g (after n c) (handOver dir n c ds) (after-lt n c hc) (omega arith) (omega (arith, hand-length c ds)) in
+      let ih = handed-over g (after n c) (handOver dir n c ds) (after-lt n c hc) (omega arith) (omega (arith, hand-length dir n c ds)) in
       record { gone = more-gone g c ds hc hg hl ih; kept = more-kept g c ds hc hg hl ih }
 
   pub gone : (g c : ℕ) (ds : List DmaDescriptor) → c < n → g ≤ n → n ≤ length ds → (d : ℕ) → d < g

@@ -1,6 +1,7 @@
 -- "For every input, refusals too, a public call's contract determines its result, every record field, cursor, tally and buffer byte
--- afterwards. Show that no two differing outcomes satisfy it". A contract that is one equation does by the first law alone. Of each
--- other call the contract is named here, over all that the call answers or changes, and every input stands before it.
+-- afterwards. Show that no two differing outcomes satisfy it". A contract that is one equation does by the first law alone, and those of
+-- the crates `capi`, `by_value` and `lent`, which have an equation for each thing, by `by-equations` or `by-answer`. Of each other call
+-- the contract is named here, over all that the call answers or changes, and every input stands before it.
 use Prim.Native.Nat.{ℕ}
 use mathlib.Core.Path.{_≡_, refl, sym, _∙_}
 use mathlib.Core.Bool.{Bool}
@@ -16,8 +17,10 @@ use lib.ListN.{length}
 use denote.Ref.{RefT}
 use Rattle.psram.specs.List.{Leaves, Listing}
 use Rattle.psram.specs.declared.held.Listed.{Listed}
+use Rattle.psram.specs.declared.held.Held.{Held}
+use Rattle.psram.specs.Piece.{shownOf, placeOf}
 use Rattle.rx_stream.specs.Receive as rx
-use Rattle.rx_stream.specs.Receive.{consumeOf, popOf, poppedOver}
+use Rattle.rx_stream.specs.Receive.{peekOf, peekPlace, consumeOf, popOf, poppedOver}
 use Rattle.rx_stream.specs.Faces as rx-faces
 use Rattle.rx_stream.specs.Faces.{consumingOf, poppingOf, poppedOf}
 use Rattle.rx_stream.specs.declared.in_place.Consuming.{Consuming}
@@ -27,7 +30,8 @@ use Rattle.rx_stream.specs.declared.view.Popped.{Popped}
 use Rattle.tx_stream.specs.Transmit as tx
 use Rattle.tx_stream.specs.Transmit.{prefillOf, prefillInto, prefillOfferOf, pushOf, pushInto, offerOf, advanceOf, commitOf}
 use Rattle.tx_stream.specs.Faces as tx-faces
-use Rattle.tx_stream.specs.Faces.{acceptingOf, partFrom, prefillPlace, offerPlace}
+use Rattle.descriptors.specs.Part.{partFrom}
+use Rattle.tx_stream.specs.Faces.{acceptingOf, prefillPlace, offerPlace}
 use Rattle.tx_stream.specs.Values.{bufRing, viewRing, pushedOf, advancedOf}
 use Rattle.tx_stream.specs.declared.answer.Accepting.{Accepting}
 use Rattle.tx_stream.specs.declared.buf.DmaTxStreamBuf.{DmaTxStreamBuf}
@@ -54,7 +58,16 @@ by-equation z x y e f = e ∙ sym f
 pub by-equation-and : {A : Type 0} (z : A) (P : A → Type 0) → Determined (λ (x : A). (x ≡ z) × P x)
 by-equation-and z P x y e f = e .0 ∙ sym (f .0)
 
--- an equation each for two things that a call answers or changes, and for three
+-- THE LAW of a contract that has an equation for each thing i that a call answers or changes, however many they are: every contract of
+-- `capi`, `by_value` and `lent` that is not one equation
+pub by-equations : {I : Type 0} {A : I → Type 0} (z : (i : I) → A i) → Determined (λ (x : (i : I) → A i). (i : I) → x i ≡ z i)
+by-equations z x y e f = λ j i. (e i ∙ sym (f i)) j
+
+-- a thing may be read off the answer: the cursor of `consume_at` and `consume_with`
+pub by-answer : {A B : Type 0} (z : A) (g : A → B) → Determined (λ (x : A × B). (x .0 ≡ z) × (x .1 ≡ g (x .0)))
+by-answer z g x y e f = rw (e .1, f .1, e .0, f .0) refl
+
+-- of two things, and of three, as the contracts below have them
 pub by-two : {A B : Type 0} (z : A) (w : B) → Determined (λ (x : A × B). (x .0 ≡ z) × (x .1 ≡ w))
 by-two z w x y e f = rw (e .0, e .1, f .0, f .1) refl
 
@@ -80,6 +93,10 @@ new-in dir st ws n len x y e f =
 pub build-list : (st ws : List ℕ) (l : Listing)
     → Determined (λ (x : List ℕ × List ℕ × Listed). Leaves st ws (x .0) (x .1) (x .2) l)
 build-list st ws l x y e f = rw (e .0, e .1 .0, e .1 .1, f .0, f .1 .0, f .1 .1) refl
+
+-- `piece`: its bytes, and where it begins in the one of the two lent slices that holds it
+pub piece : (store range : RefT (List ℕ)) (h : Held) → Determined (λ (x : List ℕ × (ℕ × ℕ)). (x .0 ≡ shownOf (store .now) (range .now) h) × (x .1 ≡ placeOf store range h))
+piece store range h = by-two _ _
 
 -- ---- device
 
@@ -123,6 +140,10 @@ module _ (st ws : List ℕ) (h : Head) where
   pub pop-in : (bytes dst : List ℕ) → let o = popOf ring (length bytes) (length dst) in
       Determined (λ (x : List ℕ × List ℕ × Popping). (x .0 ≡ left (o .ring)) × (x .1 ≡ poppedOver ring bytes dst) × (x .2 ≡ poppingOf o))
   pop-in bytes dst = by-three _ _ _
+
+  -- a part to read: its bytes, and where it begins in the lent buffer b
+  pub peek-in : (untilEof : Bool) (b : RefT (List ℕ)) → Determined (λ (x : List ℕ × (ℕ × ℕ)). (x .0 ≡ peekOf untilEof ring (b .now)) × (x .1 ≡ partFrom b (peekPlace ring (b .now))))
+  peek-in untilEof b = by-two _ _
 
   -- ---- tx_stream, in place
 

@@ -7,7 +7,7 @@ use mathlib.Core.List.{List, [], _∷_, _++_, map}
 use native.Mathlib.Omega.{arith}
 use native.Mathlib.Decide.{decLt}
 use borrow.Author.Tests.{lt-ltb}
-use lib.Dec.{eqb, leb}
+use lib.Dec.{eqb, leb, ltb}
 use lib.ListN.{getD, length, length-append, length-set, List·getD-append, List·getD-map}
 use lib.Seq.{getD-append-add, map-set-same, ext-getD}
 use Rattle.descriptors.specs.Record.{limit, blank, recordIn, update, upTo, linked, handed, withOwner, withNext, closed, sent}
@@ -269,7 +269,7 @@ either {A} ds = pick ds (λ (o : Outcome A). o .ring .descriptors)
 
 new-many : (dir : TransferDirection) (ds : List DmaDescriptor) (n len : ℕ) (x : Split) → length (newBy dir ds n len x .ring .descriptors) ≡ length ds
 new-many dir ds n len (split.Refused e) = refl
-new-many dir ds n len (split.Parts chunk rest) = go (eqb (length ds) 0)
+new-many dir ds n len (split.Parts chunk rest) = go (ltb (length ds) n)
   where
     laid-many : length (laidOut dir n len ds) ≡ length ds
     laid-many = unfold laidOut in each-length (laid dir n len) n ds

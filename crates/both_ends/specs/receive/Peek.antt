@@ -17,9 +17,10 @@ use Rattle.descriptors.specs.Ring.{Ring, recordOf, sound}
 use Rattle.descriptors.specs.Walk.{runData, standing}
 use Rattle.descriptors.specs.declared.record.DmaDescriptor.{DmaDescriptor}
 use Rattle.descriptors.specs.declared.record.TransferDirection.the-variants.{In}
+use Rattle.descriptors.specs.laws.Tests.{and-split}
 use Rattle.rx_stream.specs.Receive.{endsWith, flatBytes, peekFrom, peekBytes, peekOf}
 use Rattle.ring_order.specs.Lists.{take-drop}
-use Rattle.ring_order.specs.Tests.{and-out, or-out, or-left, bool-cases, true-not-false}
+use Rattle.ring_order.specs.Tests.{or-out, or-left, bool-cases, true-not-false}
 use Rattle.ring_order.specs.Geometry.{within}
 use Rattle.ring_order.specs.Shape.{Shape, Sound, sound-of, grounds}
 
@@ -94,7 +95,7 @@ module _ (r : Ring) (b : List ℕ) (s : Sound In r (length b)) (u : Bool) where
       go : (eqb (r .offset) 0 ≡ true) ⊎ ((isCpu (recordOf r (r .idx) .owner) && ltb (r .offset) (recordOf r (r .idx) .length)) ≡ true)
           → (r .offset ≡ 0) ⊎ ((isCpu (recordOf r (r .idx) .owner) ≡ true) × (r .offset < recordOf r (r .idx) .length))
       go (inl e) = inl (eqb-true (r .offset) 0 e)
-      go (inr e) = let (c, l) = and-out (isCpu (recordOf r (r .idx) .owner)) _ e in inr (c, ltb-true (r .offset) (recordOf r (r .idx) .length) l)
+      go (inr e) = let (c, l) = and-split (isCpu (recordOf r (r .idx) .owner)) _ e in inr (c, ltb-true (r .offset) (recordOf r (r .idx) .length) l)
 
   in-piece : (k : ℕ) → r .count - r .idx ≡ suc k → r .offset ≤ flatBytes u (recordIn (r .descriptors)) (r .count - r .idx) (r .idx)
   in-piece k e = go offset-cases
@@ -125,3 +126,18 @@ unfolding peekOf
 peek-front r b u h =
     subst (λ (t : Bool). cond t (take (peekBytes u r) (drop (peekFrom r) b)) [] ≡ take (length (cond t (take (peekBytes u r) (drop (peekFrom r) b)) [])) (standing In r b)) (sym h)
     (shown r b (sound-of In r (length b) h) u)
+
+-- AND SHOWS SOMETHING, where the cursor's record is the CPU's and holds a byte behind the offset
+pub peek-some : (r : Ring) (b : List ℕ) (u : Bool) → sound In r (length b) ≡ true → isCpu (recordOf r (r .idx) .owner) ≡ true
+    → r .offset < length (take (recordOf r (r .idx) .length) (drop (recordOf r (r .idx) .buffer) b)) → 0 < length (peekOf u r b)
+unfolding peekOf
+peek-some r b u h c l =
+    subst (λ (t : Bool). 0 < length (cond t (take (peekBytes u r) (drop (peekFrom r) b)) [])) (sym h)
+    (rw (length-take (peekBytes u r) (drop (peekFrom r) b), length-drop (peekFrom r) b)
+    (omega (arith, more, rw (length-take (recordOf r (r .idx) .length) (drop (recordOf r (r .idx) .buffer) b), length-drop (recordOf r (r .idx) .buffer) b) at l)))
+  where
+    more : recordOf r (r .idx) .length ≤ flatBytes u (recordIn (r .descriptors)) (r .count - r .idx) (r .idx)
+    more =
+        let s = sound-of In r (length b) h in
+        let e : suc (r .count - r .idx - 1) ≡ r .count - r .idx = omega (arith, s .cursor) in
+        subst (λ (m : ℕ). recordOf r (r .idx) .length ≤ flatBytes u (recordIn (r .descriptors)) m (r .idx)) e (flat-some u (recordIn (r .descriptors)) (r .count - r .idx - 1) (r .idx) c)

@@ -2,7 +2,7 @@
 use mathlib.Core.Path.{_≡_, refl, sym, _∙_, ap, subst}
 use mathlib.Core.Bool.{Bool, true, false, cond}
 use mathlib.Core.Logic.{_⊎_, inl, inr, _↔_}
-use mathlib.Core.List.{List, [], _∷_, _++_, append-assoc}
+use mathlib.Core.List.{List, [], _∷_, _++_, append-assoc, List·Memᴰ, List·Memᴰ·head, List·Memᴰ·tail, List·Memᴰ·not-nil, List·Memᴰ·cases-cons}
 use Prim.Native.Nat.{ℕ, zero, suc, _≤_, _<_}
 use native.Mathlib.Omega.{arith}
 use lib.Dec.{eqb}
@@ -14,12 +14,28 @@ use Rattle.descriptors.specs.declared.record.Next.{Next}
 use Rattle.descriptors.specs.declared.record.Next.the-variants.{At}
 use Rattle.descriptors.specs.declared.record.TransferDirection.the-variants.{In}
 use Rattle.ring_order.specs.Tests.{cpu-test, dma-test}
+use Rattle.ring_order.specs.Lists.{Somes}
 use Rattle.ring_order.specs.View.{Cell, heldBy, view, own, cursor-cell}
 use Rattle.ring_order.specs.Queue.{idxs, helds, first, Linked, Inside, parts-length}
 use Rattle.ring_order.specs.Order.{Order, Stands, run-cell, run-cpu, queue-below, queue-dma, queued-iff, locate}
 use Rattle.ring_order.specs.Skeleton.{Among, stopped-not}
-use Rattle.both_ends.specs.Demand3Receive.{World, reached, unreadAt}
-use Rattle.both_ends.specs.receive.Good.{Filled, Good}
+use Rattle.both_ends.specs.Demand3.{World, reached, unreadAt}
+use Rattle.both_ends.specs.receive.Good.{Good}
+
+-- ---- the library's word for a member of a list, and the one that goes by cases
+
+pub mem-of : (j : ℕ) (is : List ℕ) → Among j is → List·Memᴰ j is
+mem-of j [] h = absurd h
+mem-of j (i ∷ is) (inl e) = List·Memᴰ·head e
+mem-of j (i ∷ is) (inr h) = List·Memᴰ·tail (mem-of j is h)
+
+of-mem : (j : ℕ) (is : List ℕ) → List·Memᴰ j is → Among j is
+of-mem j [] h = absurd (List·Memᴰ·not-nil h)
+of-mem j (i ∷ is) h = go (List·Memᴰ·cases-cons h) (of-mem j is)
+  where
+    go : (j ≡ i) ⊎ List·Memᴰ j is → (List·Memᴰ j is → Among j is) → (j ≡ i) ⊎ Among j is
+    go (inl e) k = inl e
+    go (inr m) k = inr (k m)
 
 -- ---- the links lead through the queue
 
@@ -49,12 +65,12 @@ pub data Holds (w : World) (j : ℕ) : Type 0 where
   unread : recordOf (w .ring) j .owner ≡ Cpu → 0 < length (unreadAt w j) → Holds w j
   free : recordOf (w .ring) j .owner ≡ Dma → unreadAt w j ≡ [] → Holds w j
 
-filled-at : (a : List Cell) (x : Cell) (d : List Cell) → Filled (helds (a ++ x ∷ d)) → 0 < length (x .held)
+filled-at : (a : List Cell) (x : Cell) (d : List Cell) → Somes (helds (a ++ x ∷ d)) → 0 < length (x .held)
 filled-at [] x d f = f .0
 filled-at (y ∷ a) x d f = filled-at a x d (f .1)
 
 -- the offset is inside the cursor's record, if that is in the run
-inside-cursor : (len : ℕ) (r : Ring) (b : List ℕ) (dev : Next) (t : ℕ) (front queue : List Cell) → Order In len r b dev t front queue → Filled (helds front) → (j : ℕ) → Among j (idxs front)
+pub inside-cursor : (len : ℕ) (r : Ring) (b : List ℕ) (dev : Next) (t : ℕ) (front queue : List Cell) → Order In len r b dev t front queue → Somes (helds front) → (j : ℕ) → Among j (idxs front)
     → r .offset < length (heldBy In b (recordOf r (r .idx)))
 inside-cursor len r b dev t [] queue o f j h = absurd h
 inside-cursor len r b dev t (x ∷ front) queue o f j h =
@@ -88,20 +104,20 @@ module _ (n len q : ℕ) (w : World) (g : Good n len q w) (j : ℕ) (hj : j < n)
 
   ahead : Among j (idxs (g .front)) → Holds w j
   ahead h =
-      let t : ℕ = length (w .filled) in
+      let t : ℕ = length (w .visited) in
       let (a, x, d, e, i, o, l) = run-cell In len (w .ring) (w .bytes) (w .device) t (g .front) (g .queue) (g .order) j h in
       let c : recordOf (w .ring) j .owner ≡ Cpu = run-cpu In len (w .ring) (w .bytes) (w .device) t (g .front) (g .queue) (g .order) j h in
-      let s : 0 < length (held w j) = subst (λ (y : Cell). 0 < length (y .held)) o (filled-at a x d (subst (λ (l : List Cell). Filled (helds l)) e (g .some))) in
+      let s : 0 < length (held w j) = subst (λ (y : Cell). 0 < length (y .held)) o (filled-at a x d (subst (λ (l : List Cell). Somes (helds l)) e (g .some))) in
       let f : w .ring .offset < length (heldBy In (w .bytes) (recordOf (w .ring) (w .ring .idx))) = inside-cursor len (w .ring) (w .bytes) (w .device) t (g .front) (g .queue) (g .order) (g .some) j h in
       unread c (unread-cpu w j c (λ k. subst (λ (m : ℕ). w .ring .offset < length (held w m)) (sym k) f) s)
 
   behind : Among j (idxs (g .queue)) → Holds w j
   behind h =
-      let c = queue-dma In len (w .ring) (w .bytes) (w .device) (length (w .filled)) (g .front) (g .queue) (g .order) j h in
+      let c = queue-dma In len (w .ring) (w .bytes) (w .device) (length (w .visited)) (g .front) (g .queue) (g .order) j h in
       free c (unread-dma w j c)
 
   pub bridge : Holds w j
-  bridge = go (locate In len (w .ring) (w .bytes) (w .device) (length (w .filled)) (g .front) (g .queue) (g .order) j on-ring)
+  bridge = go (locate In len (w .ring) (w .bytes) (w .device) (length (w .visited)) (g .front) (g .queue) (g .order) j on-ring)
     where
       go : Among j (idxs (g .front)) ⊎ Among j (idxs (g .queue)) → Holds w j
       go (inl h) = ahead h
@@ -112,15 +128,15 @@ module _ (n len q : ℕ) (w : World) (g : Good n len q w) (j : ℕ) (hj : j < n)
   none-dma (free c h) e = c
 
 -- REACH
-pub reach-exact : (n len q : ℕ) (w : World) → Good n len q w → (i : ℕ) → w .device ≡ At i → (j : ℕ) → Among j (reached (w .ring) n (w .device)) ↔ ((j < n) × (unreadAt w j ≡ []))
+pub reach-exact : (n len q : ℕ) (w : World) → Good n len q w → (i : ℕ) → w .device ≡ At i → (j : ℕ) → List·Memᴰ j (reached (w .ring) n (w .device)) ↔ ((j < n) × (unreadAt w j ≡ []))
 reach-exact n len q w g i d j =
-    let t : ℕ = length (w .filled) in
+    let t : ℕ = length (w .visited) in
     let e : reached (w .ring) n (w .device) ≡ idxs (g .queue) =
     ap (λ (m : ℕ). reached (w .ring) m (w .device)) (sym (g .count)) ∙ reach-queue len (w .ring) (w .bytes) (w .device) t (g .front) (g .queue) (g .order) i d in (
-      λ h. let k = subst (Among j) e h in (
+      λ h. let k = subst (Among j) e (of-mem j (reached (w .ring) n (w .device)) h) in (
         subst (λ (m : ℕ). j < m) (g .count) (queue-below In len (w .ring) (w .bytes) (w .device) t (g .front) (g .queue) (g .order) j k),
         unread-dma w j (queue-dma In len (w .ring) (w .bytes) (w .device) t (g .front) (g .queue) (g .order) j k),
       ),
-      λ (h, u). subst (Among j) (sym e)
-          (queued-iff In len (w .ring) (w .bytes) (w .device) t (g .front) (g .queue) (g .order) j (subst (λ (m : ℕ). j < m) (sym (g .count)) h) .1 (none-dma n len q w g j h (bridge n len q w g j h) u)),
+      λ (h, u). mem-of j (reached (w .ring) n (w .device)) (subst (Among j) (sym e)
+          (queued-iff In len (w .ring) (w .bytes) (w .device) t (g .front) (g .queue) (g .order) j (subst (λ (m : ℕ). j < m) (sym (g .count)) h) .1 (none-dma n len q w g j h (bridge n len q w g j h) u))),
     )

@@ -1,6 +1,6 @@
 -- A ring that was built and prepared: every record is queued, in order.
 use mathlib.Core.Path.{_≡_, refl, sym, _∙_, ap, subst}
-use mathlib.Core.Bool.{Bool, true, false, cond}
+use mathlib.Core.Bool.{true}
 use mathlib.Core.Logic.{inr}
 use mathlib.Core.List.{List, []}
 use Prim.Native.Nat.{ℕ, zero, suc, _^_, _<_}
@@ -8,45 +8,29 @@ use native.Mathlib.Nat.{zero-mod}
 use native.Mathlib.Omega.{arith}
 use lib.ListN.{length}
 use Rattle.descriptors.specs.Record.{recordIn, linked}
-use Rattle.descriptors.specs.Cells.{recordsOf}
 use Rattle.descriptors.specs.Split.{laidOut}
-use Rattle.descriptors.specs.Ring.{Ring, refused, fresh, newOf, splitSound, linkedAll}
+use Rattle.descriptors.specs.Ring.{Ring, fresh, newOf, splitSound, linkedAll}
 use Rattle.descriptors.specs.declared.record.Next.the-variants.{At}
 use Rattle.descriptors.specs.declared.record.DmaDescriptor.{DmaDescriptor}
 use Rattle.descriptors.specs.declared.record.TransferDirection.the-variants.{In}
-use Rattle.descriptors.specs.declared.refusal.DmaBufError.the-variants.{BadState}
 use Rattle.descriptors.specs.declared.refusal.Done.the-variants as done
 use Rattle.rx_stream.specs.Receive.{preparedRing, prepareOf}
 use Rattle.ring_order.specs.Places.{place, place-zero, turn}
 use Rattle.ring_order.specs.Lists.{tab}
-use Rattle.ring_order.specs.Tests.{true-not-false}
 use Rattle.ring_order.specs.Shape.{Laid, Shape, grounds, laid-of}
 use Rattle.ring_order.specs.Stores.{Fits, shape-keeps}
 use Rattle.ring_order.specs.View.{Cell, cellIn, view}
 use Rattle.ring_order.specs.Queue.{idxs, first}
 use Rattle.ring_order.specs.Order.{Order}
-use Rattle.ring_order.specs.Begin.{refused-not, new-ready, new-split, new-words, linked-record, linked-length, linked-view, view-zero, following-below}
-use Rattle.both_ends.specs.Demand3Receive.{World, start, Built}
+use Rattle.ring_order.specs.Begin.{new-ready, new-split, linked-record, linked-length, linked-view, view-zero, following-below}
+use Rattle.both_ends.specs.Demand3.{World, world, built, prepared}
 use Rattle.both_ends.specs.receive.Good.{Good}
 
 -- ---- `prepare`
 
-prepare-by : (r : Ring) (t : Bool) → cond t record { ring = preparedRing r; answer = done.Ready } (refused r (done.Refused BadState)) .answer ≡ done.Ready
-    → (t ≡ true) × (cond t record { ring = preparedRing r; answer = done.Ready } (refused r (done.Refused BadState)) .ring ≡ preparedRing r)
-prepare-by r true h = (refl, refl)
-prepare-by r false h = absurd (refused-not BadState h)
-
-prepare-ready : (r : Ring) (len : ℕ) → prepareOf r len .answer ≡ done.Ready → (splitSound r len ≡ true) × (prepareOf r len .ring ≡ preparedRing r)
+prepare-ring : (r : Ring) (len : ℕ) → splitSound r len ≡ true → prepareOf r len .ring ≡ preparedRing r
 unfolding prepareOf
-prepare-ready r len h = prepare-by r (splitSound r len) h
-
-ready-by : (r : Ring) (t : Bool) → t ≡ true → cond t record { ring = preparedRing r; answer = done.Ready } (refused r (done.Refused BadState)) .answer ≡ done.Ready
-ready-by r true e = refl
-ready-by r false e = absurd (true-not-false false e refl)
-
-split-ready : (r : Ring) (len : ℕ) → splitSound r len ≡ true → prepareOf r len .answer ≡ done.Ready
-unfolding prepareOf
-split-ready r len e = ready-by r (splitSound r len) e
+prepare-ring r len e = rw e refl
 
 -- ---- all records are queued
 
@@ -91,11 +75,12 @@ module _ (ds : List DmaDescriptor) (n : ℕ) (bytes : List ℕ) where
   made = newOf In ds n (length bytes) .ring
 
   abbrev worldOf : Ring → World
-  worldOf r = record { ring = r; bytes = bytes; device = At 0; received = []; taken = []; filled = [] }
+  worldOf r = world r bytes (At 0) [] [] []
 
-  pub start-good : Built ds n bytes → (q : ℕ) × Good n (length bytes) q (start ds n bytes)
-  start-good (new, ready) =
-      let (h, e) = prepare-ready made (length bytes) ready in
+  pub start-good : newOf In ds n (length bytes) .answer ≡ done.Ready → (q : ℕ) × Good n (length bytes) q (prepared prepareOf (built In ds n bytes))
+  start-good new =
+      let h = new-split In ds n (length bytes) new in
+      let e = prepare-ring made (length bytes) h in
       let m : made ≡ fresh (laidOut In n (length bytes) ds) n = new-ready In ds n (length bytes) new .ring in (
         length (view In (made .count) (linkedAll In (made .count) (made .descriptors)) bytes 0),
         subst (λ (r : Ring). Good n (length bytes) (length (view In (made .count) (linkedAll In (made .count) (made .descriptors)) bytes 0)) (worldOf r)) (sym e) record {
@@ -109,8 +94,3 @@ module _ (ds : List DmaDescriptor) (n : ℕ) (bytes : List ℕ) where
           tally = ap (λ (r : Ring). r .tally) m ∙ sym (zero-mod (2 ^ 32));
         },
       )
-
--- of the records that words show, `prepare` takes all that `new` accepted
-pub new-is-enough : (st ws bytes : List ℕ) (n : ℕ) → newOf In (recordsOf st ws) n (length bytes) .answer ≡ done.Ready → Built (recordsOf st ws) n bytes
-new-is-enough st ws bytes n h =
-    (h, split-ready (newOf In (recordsOf st ws) n (length bytes) .ring) (length bytes) (new-split In (recordsOf st ws) n (length bytes) h (new-words In st ws n (length bytes) h)))

@@ -1,1 +1,0 @@
-// Both ends of a transmit ring: theorems only.
