@@ -1,5 +1,5 @@
 -- An array of records in a local: it is the row of its records, of which the first k can be lent as a slice, and it is whole again once they are back.
-use mathlib.Core.Path.{_≡_, refl, sym, _∙_, ap, subst}
+use mathlib.Core.Path.{_≡_, refl, sym, _∙_, subst}
 use Prim.Native.Nat.{ℕ, _+_, _≤_}
 use mathlib.Core.List.{[], _∷_, List, map, _++_}
 use lib.ListN.{length, length-map, take, drop, take-append-drop}

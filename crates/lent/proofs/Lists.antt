@@ -1,17 +1,17 @@
 -- Laws of `new` over a list, which the walk of `list::new_over` cites.
 use Prim.Native.Nat.{ℕ, _+_, _/_, _%_, _≤_}
-use mathlib.Core.Path.{_≡_, refl, sym, _∙_, ap}
+use mathlib.Core.Path.{_≡_, refl, sym, ap}
 use mathlib.Core.Bool.{Bool, true, false}
 use mathlib.Core.List.{List}
 use native.Mathlib.Omega.{arith}
-use borrow.Author.Tests.{ne-eqb}
+use borrow.Author.Tests.{le-ltb}
 use lib.ListN.{length}
 use Rattle.descriptors.specs.Record.{limit, most}
 use Rattle.descriptors.specs.Split.{splitOf, laid, laidOut}
-use Rattle.descriptors.specs.Ring.{Outcome, fresh, refused, newOf, newBy, splitDone}
+use Rattle.descriptors.specs.Ring.{fresh, refused, newOf, newBy, splitDone}
 use Rattle.descriptors.specs.laws.Tests.{not-both}
 use Rattle.descriptors.specs.laws.Updates.{each}
-use Rattle.descriptors.specs.laws.Splits.{Known, parts-known}
+use Rattle.descriptors.specs.laws.Splits.{parts-known}
 use Rattle.descriptors.specs.declared.record.DmaDescriptor.{DmaDescriptor}
 use Rattle.descriptors.specs.declared.record.TransferDirection.{TransferDirection}
 use Rattle.descriptors.specs.declared.refusal.DmaBufError.{DmaBufError}
@@ -43,7 +43,7 @@ unfolding newOf laidOut
 new-ready dir ds len h = go (splitOf (length ds) len) refl h
   where
     go : (s : Split) → splitOf (length ds) len ≡ s → Ready ≡ splitDone s → newBy dir ds (length ds) len s ≡ record { ring = fresh (placed dir len ds (length ds)) (length ds); answer = Ready }
-    go (split.Parts c r) e p = let k = parts-known (length ds) len c r e in rw (ne-eqb (length ds) 0 (λ z. omega (arith, k .facts .few))) refl
+    go (split.Parts c r) e p = rw (le-ltb (length ds) (length ds) (omega arith)) refl
     go (split.Refused x) e p = not-both (sym (ap isReady p))
 
 -- where it is refused, every record is as it was

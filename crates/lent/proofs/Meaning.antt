@@ -1,26 +1,19 @@
--- What the two forms leave, in the document's words. No walk cites it.
+-- What the lent list holds, in the document's words. No walk cites it.
 use Prim.Native.Nat.{ℕ, _<_}
-use mathlib.Core.Path.{_≡_, refl, sym, _∙_, ap}
-use mathlib.Core.Bool.{Bool, true, false}
+use mathlib.Core.Path.{_≡_, _∙_, ap}
 use mathlib.Core.List.{List}
 use native.Mathlib.Omega.{arith}
 use lib.ListN.{length}
 use Rattle.descriptors.specs.Record.{recordIn}
 use Rattle.descriptors.specs.Split.{splitOf, laid}
-use Rattle.descriptors.specs.Ring.{Outcome, ringOf, sound, splitDone}
+use Rattle.descriptors.specs.Ring.{Outcome, splitDone}
 use Rattle.descriptors.specs.laws.Updates.{each-at}
-use Rattle.descriptors.specs.laws.Words.{cells-same}
 use Rattle.descriptors.specs.declared.record.DmaDescriptor.{DmaDescriptor}
 use Rattle.descriptors.specs.declared.record.TransferDirection.{TransferDirection}
-use Rattle.descriptors.specs.declared.record.TransferDirection.the-variants.{In}
 use Rattle.descriptors.specs.declared.refusal.DmaBufError.{DmaBufError}
 use Rattle.descriptors.specs.declared.refusal.Done.{Done}
 use Rattle.descriptors.specs.declared.refusal.Done.the-variants.{Ready, Refused}
-use Rattle.rx_stream.specs.Receive.{consumeOf}
-use Rattle.rx_stream.specs.declared.view.DmaRxStreamBufView.{DmaRxStreamBufView}
 use Rattle.lent.specs.List.{newOver}
-use Rattle.lent.specs.Cursor.{standingAt, cursorOf, consumeBy}
-use Rattle.lent.specs.declared.cursor.Cursor.{Cursor}
 use Rattle.lent.proofs.Lists.{new-ready, new-refused}
 
 abbrev left : Outcome Done → List DmaDescriptor
@@ -34,9 +27,3 @@ written dir ds len j e l = ap (λ (out : Outcome Done). recordIn (left out) j) (
 -- where it refuses, every record is as it was
 pub as-lent : (dir : TransferDirection) (ds : List DmaDescriptor) (len : ℕ) (x : DmaBufError) → Refused x ≡ splitDone (splitOf (length ds) len) → left (newOver dir ds len) ≡ ds
 as-lent dir ds len x e = ap left (new-refused dir ds len x e)
-
--- a refused consume leaves the lent cursor where it stood, and the ring as it was at that cursor
-pub stays : (v : DmaRxStreamBufView) (c : Cursor) (len k : ℕ) → sound In (ringOf (v .starts) (v .cells) (standingAt v c .head)) len ≡ false
-    → (consumeBy (standingAt v c) len k .ring ≡ standingAt v c) × (cursorOf (consumeBy (standingAt v c) len k .ring .head) ≡ c)
-unfolding consumeOf
-stays v c len k e = (rw (e, sym (cells-same (v .starts) (v .cells))) refl, rw e refl)

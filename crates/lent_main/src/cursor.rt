@@ -1,4 +1,5 @@
-// Consume from a lent cursor, over a ring whose own cursor stands elsewhere, and from the ring's own cursor.
+// Consume from a lent cursor, over a ring whose own cursor stands elsewhere, and from the ring's own cursor. A refused one leaves the
+// ring standing elsewhere.
 use crate::same;
 use descriptors::cells;
 use descriptors::cells::CELLS;
@@ -6,6 +7,7 @@ use descriptors::record::LIMIT;
 use descriptors::record::Owner;
 use descriptors::ring::Head;
 use lent::cursor::Cursor;
+use rx_stream::Took;
 use rx_stream::buf::DmaRxStreamBuf;
 use rx_stream::view::Consumed;
 use rx_stream::view::DmaRxStreamBufView;
@@ -94,6 +96,18 @@ fn same_consumed(a: Consumed, b: Consumed) -> bool {
     same::answers(same::numbers(x), same::numbers(y))
 }
 
+// What the lent form has to answer and leave: what the by-value one does, but after a refusal the ring that it was given.
+fn wanted(value: Consumed, given: DmaRxStreamBufView) -> Consumed {
+    let answer = value.answer;
+    match answer {
+        Took::Bytes { taken: _, back: _ } => value,
+        Took::Refused(e) => Consumed {
+            ring: given,
+            answer: Took::Refused(e),
+        },
+    }
+}
+
 // k bytes taken from (i, o) on, of a ring of n: the ring that the by-value consume leaves.
 fn run_case(
     name: &[u8],
@@ -115,6 +129,8 @@ fn run_case(
     let value = own.consume(LEN, k);
     let left = value.ring;
     let h = left.head;
+    let after = lent.ring;
+    let g = after.head;
     let answer = lent.answer;
     let c = same::numbers(answer);
     crate::say(name);
@@ -127,7 +143,10 @@ fn run_case(
     crate::say(b", cursor");
     crate::show(at.record);
     crate::show(at.offset);
-    crate::verdict(same_at(at, h) && same_consumed(lent, value));
+    crate::say(b", the ring at");
+    crate::show(g.descriptor_idx);
+    crate::show(g.descriptor_offset);
+    crate::verdict(same_at(at, h) && same_consumed(lent, wanted(value, astray)));
     left
 }
 
@@ -155,6 +174,7 @@ pub fn run() {
     run_case(b"too many records", ring, 65, 0, 0, 4);
     run_case(b"unsound ring", unsound(ring), 4, 0, 0, 4);
     run_case(b"record out of range", ring, 4, 4, 0, 4);
+    run_case(b"0 bytes, record out of range", empty, 4, 4, 0, 0);
     run_case(b"offset out of range", ring, 4, 1, 2, 4);
     run_case(b"offset in a DMA-owned record", ring, 4, 2, 1, 4);
 }

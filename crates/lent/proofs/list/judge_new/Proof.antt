@@ -1,11 +1,8 @@
-use mathlib.Core.Path.{_≡_, sym, ap, _∙_}
+use mathlib.Core.Path.{sym, ap, _∙_}
 use borrow.Author.Needs.{needs}
 use Rattle.descriptors.specs.Ring.{splitDone}
 use Rattle.lent.proofs.list.judge_new.Statement.{statement}
 use Rattle.lent.proofs.list.judge_new.Tie as tie
-use Rattle.lent.proofs.list.judge_new.Reads as reads
-use Rattle.lent.proofs.list.judge_new.Lts as lts
-use Rattle.descriptors.proofs.split.split_of.Reads as split-of-reads
 
 split-of-requires : tie.Need-split-of-requires
 split-of-requires c κs = search needs

@@ -52,7 +52,7 @@ use denote.Triple.Walked.{says, Stays, stay-slice, stay-none, walkOf, goes-none,
 use denote.Exit.{yes}
 use Rattle.descriptors.specs.Record.{limit, most, blank}
 use Rattle.descriptors.specs.Split.{splitOf, laid}
-use Rattle.descriptors.specs.Ring.{Outcome, Ring, splitDone}
+use Rattle.descriptors.specs.Ring.{Outcome, splitDone}
 use Rattle.descriptors.specs.laws.Updates.{each-length, up-none, up-more}
 use Rattle.descriptors.specs.declared.record.DmaDescriptor.{DmaDescriptor}
 use Rattle.descriptors.specs.declared.record.TransferDirection.{TransferDirection}

@@ -5,9 +5,6 @@ use native.Mathlib.Omega.{arith}
 use Rattle.lent.specs.List.{room}
 use Rattle.lent.proofs.list.new_with.Statement.{statement}
 use Rattle.lent.proofs.list.new_with.Tie as tie
-use Rattle.lent.proofs.list.new_with.Reads as reads
-use Rattle.lent.proofs.list.new_with.Lts as lts
-use Rattle.lent.proofs.list.new_first.Reads as new-first-reads
 
 returns : tie.Need-returns
 returns c = sym (rw (lt-ltb room _ (c .before .if1 .taken)))

@@ -1,13 +1,9 @@
-use Prim.Native.Nat.{_+_, _/_, _%_}
-use mathlib.Core.Path.{_≡_, sym}
-use native.Mathlib.Omega.{arith}
+use mathlib.Core.Path.{sym}
 use borrow.Author.Needs.{needs}
 use borrow.Author.Tests.{eq-eqb, ne-eqb}
 use Rattle.descriptors.specs.Split.{sizeOf}
 use Rattle.lent.proofs.list.size_at.Statement.{statement}
 use Rattle.lent.proofs.list.size_at.Tie as tie
-use Rattle.lent.proofs.list.size_at.Reads as reads
-use Rattle.lent.proofs.list.size_at.Lts as lts
 
 add-if1 : tie.Need-add-if1
 add-if1 c = search needs

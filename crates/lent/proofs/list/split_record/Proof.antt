@@ -1,17 +1,13 @@
-use Prim.Native.Nat.{_+_, _*_, _/_, _%_, _≤_, _<_}
-use mathlib.Core.Path.{_≡_, sym, ap, _∙_}
+use Prim.Native.Nat.{_+_, _*_, _/_, _≤_}
+use mathlib.Core.Path.{sym, ap, _∙_}
 use native.Mathlib.Omega.{arith}
 use borrow.Author.Needs.{needs}
-use Rattle.descriptors.specs.Record.{limit, most}
+use Rattle.descriptors.specs.Record.{limit}
 use Rattle.descriptors.specs.Split.{startOf, laid}
 use Rattle.descriptors.specs.laws.Splits.{start-small}
 use Rattle.descriptors.specs.declared.record.TransferDirection.{TransferDirection}
 use Rattle.lent.proofs.list.split_record.Statement.{statement}
 use Rattle.lent.proofs.list.split_record.Tie as tie
-use Rattle.lent.proofs.list.split_record.Reads as reads
-use Rattle.lent.proofs.list.split_record.Lts as lts
-use Rattle.lent.proofs.list.placed.Reads as placed-reads
-use Rattle.lent.proofs.list.size_at.Reads as size-at-reads
 
 starts : (c : tie.Start) → c .args .i * (c .args .len / c .args .n) + c .args .len / c .args .n ≤ limit * 4095 + 4095
 starts c = start-small (c .args .i) (c .args .n) (c .args .len / c .args .n) (omega arith) (omega arith) (omega arith)

@@ -2,9 +2,6 @@ use Prim.Native.Nat.{_-_, _≤_}
 use borrow.Author.Needs.{needs}
 use Rattle.lent_main.proofs.list.lent_records.Statement.{statement}
 use Rattle.lent_main.proofs.list.lent_records.Tie as tie
-use Rattle.lent_main.proofs.list.lent_records.Reads as reads
-use Rattle.lent_main.proofs.list.lent_records.Lts as lts
-use Rattle.lent_main.proofs.list.lent_record.Reads as lent-record-reads
 
 abbrev Inv-loop : tie.InvT-loop
 Inv-loop list₀ i₀ list i = i ≤ 65

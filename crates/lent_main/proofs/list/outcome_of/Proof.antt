@@ -4,9 +4,6 @@ use lib.ListN.{length}
 use borrow.Author.Needs.{needs}
 use Rattle.lent_main.proofs.list.outcome_of.Statement.{statement}
 use Rattle.lent_main.proofs.list.outcome_of.Tie as tie
-use Rattle.lent_main.proofs.list.outcome_of.Reads as reads
-use Rattle.lent_main.proofs.list.outcome_of.Lts as lts
-use Rattle.descriptors.proofs.cells.set_descriptor.Reads as set-descriptor-reads
 
 abbrev Inv-loop : tie.InvT-loop
 Inv-loop refused list starts₀ cells₀ i₀ starts cells i = (i ≤ 64) × (length starts ≡ 64) × (length cells ≡ 320)

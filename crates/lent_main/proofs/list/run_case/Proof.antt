@@ -4,9 +4,6 @@ use lib.Seq.{length-take-le}
 use borrow.Author.Needs.{needs}
 use Rattle.lent_main.proofs.list.run_case.Statement.{statement}
 use Rattle.lent_main.proofs.list.run_case.Tie as tie
-use Rattle.lent_main.proofs.list.run_case.Reads as reads
-use Rattle.lent_main.proofs.list.run_case.Lts as lts
-use Rattle.lent_main.proofs.list.run_way.Reads as run-way-reads
 
 returns : tie.Need-returns
 returns c = search needs

@@ -3,8 +3,6 @@ use lib.ListN.{length}
 use borrow.Author.Needs.{needs}
 use Rattle.lent_main.proofs.same.words.Statement.{statement}
 use Rattle.lent_main.proofs.same.words.Tie as tie
-use Rattle.lent_main.proofs.same.words.Reads as reads
-use Rattle.lent_main.proofs.same.words.Lts as lts
 
 abbrev Inv-loop : tie.InvT-loop
 Inv-loop a b i₀ i = i ≤ length a
