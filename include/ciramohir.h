@@ -12,8 +12,11 @@
  * The byte buffer stays the caller's; calls that do not touch its bytes take its length alone.
  *
  * Each call returns 0 where it is done and else the number of its refusal, and then nothing at all is changed. What it answers is
- * written to `answer`, three words; a word that an answer does not use is set to 0. Slices of another length than the layout's, an
- * answer of fewer than 3 words, a tally word of 2^32 or more and marks above 1 are refused with 5.
+ * written to `answer`, three words; a word that an answer does not use is set to 0.
+ *
+ * Refused with 5, before the call's other refusals: an answer of fewer than 3 words; a head that is not 5 words long or whose tally
+ * word is 2^32 or more; starts or cells of another length, or with an owner or EOF above 1. But `new` reads no word of the head, and
+ * judges starts and cells last, after its own 1 to 4; the list of pieces judges them after its 4.
  */
 #ifndef CIRAMOHIR_H
 #define CIRAMOHIR_H
@@ -55,7 +58,9 @@ enum dma_chip { DMA_ORDINARY = 0, DMA_S2 = 1 };
 
 /* ---- the receive ring; length is the byte buffer's */
 
-/* Splits a buffer of so many bytes over the first `count` records. The head's words may hold anything; they are written last. */
+/* Splits a buffer of so many bytes over the first `count` records. Starts and cells are the lent records: zero them before the first
+ * use (an owner or EOF above 1 in any of the 64 is no record's); what the split does not set stays. The head's words may hold
+ * anything. The bytes between two readings of the tally are (uint32_t)(later - earlier). */
 uint32_t dma_rx_new(uint64_t *head, size_t head_len, uint32_t *starts, size_t starts_len, uint16_t *cells, size_t cells_len,
                     size_t count, size_t length);
 uint32_t dma_rx_prepare(uint64_t *head, size_t head_len, const uint32_t *starts, size_t starts_len, uint16_t *cells,
@@ -63,7 +68,7 @@ uint32_t dma_rx_prepare(uint64_t *head, size_t head_len, const uint32_t *starts,
 /* answer: bytes */
 uint32_t dma_rx_available_bytes(const uint64_t *head, size_t head_len, const uint32_t *starts, size_t starts_len,
                                 const uint16_t *cells, size_t cells_len, size_t length, uint64_t *answer, size_t answer_len);
-/* answer: place in the buffer, length */
+/* answer: place in the buffer, length (0 where there is nothing to show) */
 uint32_t dma_rx_peek(const uint64_t *head, size_t head_len, const uint32_t *starts, size_t starts_len, const uint16_t *cells,
                      size_t cells_len, size_t length, uint64_t *answer, size_t answer_len);
 /* answer: place, length, 1 where the part ends with an EOF record */
@@ -105,7 +110,9 @@ uint32_t dma_tx_advance(uint64_t *head, size_t head_len, const uint32_t *starts,
                         size_t cells_len, size_t length, size_t count, uint64_t *answer, size_t answer_len);
 
 /* ---- the device, to run a ring without a chip. device: one word, 0 stopped, i + 1 on record i; it starts at 1.
- * answer: bytes put in, bytes sent. eof: 0 or 1. */
+ * answer: bytes put in, bytes sent. eof: 0 or 1. Any other eof, a device of another length than 1, and a word above the count of
+ * records are refused with 5, and so is an output shorter than the record's length; a stopped device with 7; incoming bytes of 0 or
+ * more than the record's size with 6. */
 uint32_t dma_rx_step(const uint64_t *head, size_t head_len, const uint32_t *starts, size_t starts_len, uint16_t *cells,
                      size_t cells_len, uint8_t *buffer, size_t buffer_len, uint64_t *device, size_t device_len,
                      const uint8_t *incoming, size_t incoming_len, uint32_t eof, uint64_t *answer, size_t answer_len);
@@ -119,7 +126,7 @@ uint32_t dma_ensure_buffer_compatible(uint32_t address, uint32_t length, uint32_
                                       uint64_t internal_high, uint64_t external_low, uint64_t external_high,
                                       uint32_t internal_alignment, uint32_t external_alignment);
 
-/* ---- head and tail of a range. A chip above 1 is refused with 5, before all else. */
+/* ---- head and tail of a range. A chip above 1 is refused with 5, before all else. Pieces are numbered from 0. */
 
 /* answer: head, middle, tail */
 uint32_t dma_head_middle_tail(uint32_t address, uint32_t length, uint32_t chip, uint64_t *answer, size_t answer_len);

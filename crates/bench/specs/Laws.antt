@@ -1,7 +1,7 @@
 -- What the proofs of the loops over digits cite.
 use Prim.Native.Nat.{ℕ, zero, suc, _+_, _-_, _*_, _/_, _≤_, _<_}
-use mathlib.Core.Bool.{Bool, true, false, cond, _&&_}
-use mathlib.Core.Path.{_≡_, refl, sym, ap, _∙_}
+use mathlib.Core.Bool.{Bool, true, false, cond}
+use mathlib.Core.Path.{_≡_, refl, _∙_}
 use mathlib.Core.List.{List, [], _∷_}
 use native.Mathlib.Omega.{arith}
 use native.Mathlib.Nat.{div-lt-iff-lt-mul, le-div-iff-mul-le}
@@ -14,7 +14,6 @@ use borrow.Author.Count.{below-more}
 use Rattle.bench.specs.Digit.{none, valueOf}
 use Rattle.bench.specs.Pairs.{noByte, pairAt}
 use Rattle.bench.specs.Number.{most, isHex, numeralOf, numberOf}
-use Rattle.bench.specs.declared.number.Number.{Number}
 use Rattle.bench.specs.declared.number.Number.the-variants.{Is, Malformed, TooLarge}
 
 module _ (w : List ℕ) (h : 2 ≤ length w) where

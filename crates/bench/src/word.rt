@@ -1,5 +1,4 @@
 // The words of a line: what stands between blanks. A blank is a space or a tab.
-ghost use mathlib.Core.Path.{_≡_};
 ghost use Prim.Native.Nat.{_≤_};
 ghost use lib.ListN.{length};
 

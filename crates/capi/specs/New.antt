@@ -5,7 +5,7 @@ use mathlib.Core.List.{List}
 use lib.Dec.{eqb}
 use lib.ListN.{length}
 use Rattle.descriptors.specs.Cells.{startsNow, cellsNow}
-use Rattle.descriptors.specs.Ring.{Ring, Outcome, headOf}
+use Rattle.descriptors.specs.Ring.{Outcome, headOf}
 use Rattle.descriptors.specs.declared.refusal.Done.{Done}
 use Rattle.descriptors.specs.declared.refusal.Done.the-variants as done
 use Rattle.descriptors.specs.declared.ring.Head.{Head}

@@ -6,7 +6,6 @@ mod answer; // answer.rt: what a call says, and the answer's words
 mod fresh; // fresh.rt: both `new`s over lent words
 mod flat; // flat.rt: what peek shows, as a place and a length
 mod offer; // offer.rt: what is on offer, as a place and a length
-mod numbered; // numbered.rt: the numbered piece of a range, as a place and a length
 pub mod receive; // receive.rt: the receive ring
 pub mod transmit; // transmit.rt: the transmit ring
 pub mod steps; // steps.rt: the device's steps

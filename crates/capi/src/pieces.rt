@@ -9,12 +9,12 @@ ghost use Rattle.capi.specs.Answer.{saidNumber, saidIn};
 ghost use Rattle.capi.specs.Pieces.{chipOf, pieceReady, readySaid, cutSaid, listedSaid, heldSaid};
 use crate::answer;
 use crate::answer::Said;
-use crate::numbered;
 use psram::chip::Chip;
 use psram::cut;
 use psram::held::Held;
 use psram::held::Listed;
 use psram::list;
+use psram::piece;
 use psram::plan::Cut;
 
 fn chip_of(chip: u32) -> Chip
@@ -141,6 +141,7 @@ pub extern "C" fn dma_piece(
     if !piece_ready(answer, chip) {
         return 5;
     }
-    let outcome = numbered::numbered(count, address, len, chip_of(chip), store_len, number);
+    let bytes = len as usize;
+    let outcome = piece::numbered(count, address, bytes, chip_of(chip), store_len, number);
     answer::put(answer, said_held(outcome))
 }

@@ -1,6 +1,6 @@
 // The transmit ring. `len` is the length of its byte buffer.
 ghost use mathlib.Core.Path.{_≡_};
-ghost use mathlib.Core.Bool.{true, false};
+ghost use mathlib.Core.Bool.{true};
 ghost use lib.ListN.{length};
 ghost use Rattle.descriptors.specs.Cells.{recordsOf, cellsNow};
 ghost use Rattle.descriptors.specs.Ring.{headOf, newOf};

@@ -1,18 +1,8 @@
-use lib.ListN.{getD, length}
-use lib.Dec.{eqb, leb, ltb}
+use lib.ListN.{length}
 use borrow.Author.Needs.{needs}
-use native.Mathlib.Omega.{arith}
-use mathlib.Core.Logic.{⊎-elim}
-use mathlib.Core.List.{List, []}
-use mathlib.Core.Bool.{Bool, true, false, cond, _&&_}
-use mathlib.Core.Path.{_≡_, sym, ap, _∙_, refl}
-use Prim.Native.Nat.{ℕ, suc, _+_, _-_, _*_, _≤_, _<_}
+use mathlib.Core.Path.{_≡_}
 use Rattle.bench.proofs.serve.Statement.{statement}
 use Rattle.bench.proofs.serve.Tie as tie
-use Rattle.bench.proofs.serve.Reads as reads
-use Rattle.bench.proofs.serve.Lts as lts
-use Rattle.bench.proofs.input.block.Reads as block-reads
-use Rattle.bench.proofs.input.start.Reads as start-reads
 
 abbrev Inv-loop : tie.InvT-loop
 Inv-loop fd input₀ s₀ w₀ buffer₀ data₀ out₀ p₀ blocks₀ input s w buffer «data» out p blocks =

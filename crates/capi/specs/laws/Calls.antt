@@ -1,32 +1,30 @@
 -- What the calls without a loop of their own answer, case by case.
 use Prim.Native.Nat.{ℕ, _+_, _-_, _≤_, min}
-use mathlib.Core.Path.{_≡_, refl, sym, _∙_, ap}
+use mathlib.Core.Path.{_≡_, refl, _∙_, ap}
 use mathlib.Core.Bool.{Bool, true, false, cond}
 use mathlib.Core.List.{List}
 use native.Mathlib.Omega.{arith}
 use borrow.Author.Tests.{ne-eqb, ltb-false}
 use lib.Dec.{ltb}
 use lib.ListN.{length}
-use Rattle.descriptors.specs.Record.{recordIn}
+use Rattle.descriptors.specs.Record.{recordIn, top}
 use Rattle.descriptors.specs.Cells.{eofCell}
 use Rattle.descriptors.specs.Ring.{Ring, sound, splitSound, judged}
 use Rattle.descriptors.specs.Walk.{availableIn}
 use Rattle.descriptors.specs.declared.record.TransferDirection.the-variants.{In, Out}
 use Rattle.descriptors.specs.declared.refusal.DmaBufError.{DmaBufError}
 use Rattle.descriptors.specs.declared.refusal.DmaBufError.the-variants.{BadState, UnsupportedMemoryRegion}
-use Rattle.descriptors.specs.declared.refusal.Counted.{Counted}
 use Rattle.descriptors.specs.declared.refusal.Counted.the-variants as counted
 use Rattle.descriptors.specs.declared.refusal.Done.{Done}
 use Rattle.descriptors.specs.declared.refusal.Done.the-variants as done
 use Rattle.descriptors.specs.declared.ring.Head.{Head}
 use Rattle.rx_stream.specs.Receive.{peekFrom, peekBytes, flatEof}
 use Rattle.tx_stream.specs.Transmit.{availableOf, writeAt, offered, prefillOfferRefusalOf}
-use Rattle.psram.specs.Cut.{top, leastOf, bounceOf, planOf, planFor, cutOf}
+use Rattle.psram.specs.Cut.{leastOf, bounceOf, planOf, planFor, cutOf}
 use Rattle.psram.specs.Piece.{bytesOf}
 use Rattle.psram.specs.laws.Parts.{parted, sides}
 use Rattle.psram.specs.declared.chip.Chip.{Chip}
 use Rattle.psram.specs.declared.plan.Plan.{Plan}
-use Rattle.psram.specs.declared.plan.Cut.{Cut}
 use Rattle.psram.specs.declared.plan.Cut.the-variants as cut
 use Rattle.capi.specs.Words.{headMade}
 use Rattle.capi.specs.Answer.{saidNumber, saidIn}

@@ -1,7 +1,7 @@
 -- Words one by one, and numbers that name a direction, a chip or a place.
 use Prim.Native.Nat.{ℕ, zero, suc, _≤_, _<_}
-use mathlib.Core.Path.{_≡_, refl, sym, _∙_, ap}
-use mathlib.Core.Bool.{Bool, true, false, cond, _&&_}
+use mathlib.Core.Path.{_≡_, refl}
+use mathlib.Core.Bool.{Bool, true}
 use mathlib.Core.List.{List, [], _∷_}
 use native.Mathlib.Omega.{arith}
 use borrow.Author.Tests.{eqb-true, ltb-true, leb-true, eq-eqb}
@@ -12,7 +12,7 @@ use Rattle.descriptors.specs.laws.Tests.{and-split}
 use Rattle.descriptors.specs.declared.record.TransferDirection.the-variants.{Out}
 use Rattle.descriptors.specs.declared.ring.Head.{Head}
 use Rattle.psram.specs.declared.chip.Chip.the-variants.{S2}
-use Rattle.capi.specs.Words.{headRead, headWords, isHead, headIn, headMade, headNow, isPlace}
+use Rattle.capi.specs.Words.{isHead, headMade, headNow, isPlace}
 use Rattle.capi.specs.Pieces.{directionOf, chipOf}
 
 pub direction-some : (x : ℕ) → (x ≡ 0 → ⊥) → Out ≡ directionOf x

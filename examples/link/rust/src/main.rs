@@ -24,10 +24,7 @@ fn receive() -> Result<(), DmaBufError> {
     let (mut list, mut buffer) = (DescriptorList::new(4), [0; LEN]);
     let mut ring = DmaRxStreamBuf::new(&mut list, &mut buffer)?;
     ring.prepare()?;
-    let (list, buffer) = ring.split();
-    println!("sizes: {}", (0..4).map(|i| list.get(i).size.to_string()).collect::<Vec<_>>().join(" "));
-    let mut ring = DmaRxStreamBuf::new(list, buffer)?;
-    ring.prepare()?;
+    println!("sizes: {}", (0..4).map(|i| ring.descriptors().get(i).size.to_string()).collect::<Vec<_>>().join(" "));
     let (mut view, mut device) = (ring.into_view(), Device::on(0));
     device.receive(&mut view, &[1, 2, 3], false)?;
     device.receive(&mut view, &[4, 5], true)?;

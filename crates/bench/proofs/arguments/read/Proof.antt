@@ -1,19 +1,9 @@
-use lib.ListN.{getD, length}
-use lib.Dec.{eqb, leb, ltb}
+use lib.ListN.{length}
 use borrow.Author.Needs.{needs}
-use native.Mathlib.Omega.{arith}
-use mathlib.Core.Logic.{⊎-elim}
-use mathlib.Core.List.{List, []}
-use mathlib.Core.Bool.{Bool, true, false, cond, _&&_}
-use mathlib.Core.Path.{_≡_, sym, ap, _∙_, refl}
-use Prim.Native.Nat.{ℕ, suc, _+_, _-_, _*_, _≤_, _<_}
+use mathlib.Core.Path.{_≡_}
+use Prim.Native.Nat.{_-_}
 use Rattle.bench.proofs.arguments.read.Statement.{statement}
 use Rattle.bench.proofs.arguments.read.Tie as tie
-use Rattle.bench.proofs.arguments.read.Reads as reads
-use Rattle.bench.proofs.arguments.read.Lts as lts
-use Rattle.bench.proofs.argument.read.Reads as read-reads
-use Rattle.bench.proofs.arguments.surplus.Reads as surplus-reads
-use Rattle.bench.proofs.word.word_from.Reads as word-from-reads
 
 abbrev Inv-loop : tie.InvT-loop
 Inv-loop line from kinds data₀ values₀ at₀ i₀ «data» values at i =

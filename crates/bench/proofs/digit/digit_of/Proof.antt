@@ -4,8 +4,6 @@ use mathlib.Core.Path.{sym}
 use borrow.Author.Needs.{needs}
 use Rattle.bench.proofs.digit.digit_of.Statement.{statement}
 use Rattle.bench.proofs.digit.digit_of.Tie as tie
-use Rattle.bench.proofs.digit.digit_of.Reads as reads
-use Rattle.bench.proofs.digit.digit_of.Lts as lts
 
 add-result : tie.Need-add-result
 add-result c = search needs

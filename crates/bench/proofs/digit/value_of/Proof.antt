@@ -5,8 +5,6 @@ use mathlib.Core.Path.{sym}
 use borrow.Author.Needs.{needs}
 use Rattle.bench.proofs.digit.value_of.Statement.{statement}
 use Rattle.bench.proofs.digit.value_of.Tie as tie
-use Rattle.bench.proofs.digit.value_of.Reads as reads
-use Rattle.bench.proofs.digit.value_of.Lts as lts
 
 returns : tie.Need-returns
 unfolding valueOf

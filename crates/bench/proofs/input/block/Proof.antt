@@ -2,12 +2,6 @@ use mathlib.Core.Path.{_∙_}
 use borrow.Author.Needs.{needs}
 use Rattle.bench.proofs.input.block.Statement.{statement}
 use Rattle.bench.proofs.input.block.Tie as tie
-use Rattle.bench.proofs.input.block.Reads as reads
-use Rattle.bench.proofs.input.block.Lts as lts
-use Rattle.bench.proofs.input.last.Reads as last-reads
-use Rattle.bench.proofs.input.lines.Reads as lines-reads
-use Rattle.bench.proofs.input.read_behind.Reads as read-behind-reads
-use Rattle.bench.proofs.input.rest.Reads as rest-reads
 
 read-behind-requires : tie.Need-read-behind-requires
 read-behind-requires c κs = search needs

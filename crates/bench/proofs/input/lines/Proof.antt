@@ -1,18 +1,9 @@
-use lib.ListN.{getD, length}
-use lib.Dec.{eqb, leb, ltb}
+use lib.ListN.{length}
 use borrow.Author.Needs.{needs}
-use native.Mathlib.Omega.{arith}
-use mathlib.Core.Logic.{⊎-elim}
-use mathlib.Core.List.{List, []}
-use mathlib.Core.Bool.{Bool, true, false, cond, _&&_}
-use mathlib.Core.Path.{_≡_, sym, ap, _∙_, refl}
-use Prim.Native.Nat.{ℕ, suc, _+_, _-_, _*_, _≤_, _<_}
+use mathlib.Core.Path.{_≡_}
+use Prim.Native.Nat.{_-_, _≤_}
 use Rattle.bench.proofs.input.lines.Statement.{statement}
 use Rattle.bench.proofs.input.lines.Tie as tie
-use Rattle.bench.proofs.input.lines.Reads as reads
-use Rattle.bench.proofs.input.lines.Lts as lts
-use Rattle.bench.proofs.input.one.Reads as one-reads
-use Rattle.bytes.proofs.scan.find.Reads as find-reads
 
 abbrev Inv-loop : tie.InvT-loop
 Inv-loop input have s₀ w₀ buffer₀ data₀ out₀ bench₀ passing₀ at₀ from₀ s w buffer «data» out bench passing at from =

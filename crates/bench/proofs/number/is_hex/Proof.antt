@@ -1,12 +1,10 @@
 use Rattle.bench.specs.Laws.{hex-not, hex-second}
 use Rattle.bench.specs.Number.{isHex}
-use borrow.Author.Tests.{lt-ltb, le-ltb, ne-eqb, eq-eqb}
+use borrow.Author.Tests.{lt-ltb}
 use mathlib.Core.Path.{sym}
 use borrow.Author.Needs.{needs}
 use Rattle.bench.proofs.number.is_hex.Statement.{statement}
 use Rattle.bench.proofs.number.is_hex.Tie as tie
-use Rattle.bench.proofs.number.is_hex.Reads as reads
-use Rattle.bench.proofs.number.is_hex.Lts as lts
 
 returns : tie.Need-returns
 unfolding isHex

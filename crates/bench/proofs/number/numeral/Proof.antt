@@ -1,21 +1,13 @@
 use Rattle.bench.specs.Laws.{numeral-end, numeral-bad, numeral-large, numeral-more, too-large, not-too-large}
-use Rattle.bench.specs.Digit.{valueOf}
 use lib.ListN.{drop}
 use Rattle.bench.specs.Number.{most, numeralOf}
-use lib.ListN.{getD, length}
-use lib.Dec.{eqb, leb, ltb}
+use lib.ListN.{length}
 use borrow.Author.Needs.{needs}
 use native.Mathlib.Omega.{arith}
-use mathlib.Core.Logic.{⊎-elim}
-use mathlib.Core.List.{List, []}
-use mathlib.Core.Bool.{Bool, true, false, cond, _&&_}
-use mathlib.Core.Path.{_≡_, sym, ap, _∙_, refl}
-use Prim.Native.Nat.{ℕ, suc, _+_, _-_, _*_, _≤_, _<_}
+use mathlib.Core.Path.{_≡_, sym, _∙_}
+use Prim.Native.Nat.{_-_, _≤_}
 use Rattle.bench.proofs.number.numeral.Statement.{statement}
 use Rattle.bench.proofs.number.numeral.Tie as tie
-use Rattle.bench.proofs.number.numeral.Reads as reads
-use Rattle.bench.proofs.number.numeral.Lts as lts
-use Rattle.bench.proofs.digit.value_of.Reads as value-of-reads
 
 abbrev Inv-loop : tie.InvT-loop
 Inv-loop word from base value₀ i₀ value i =

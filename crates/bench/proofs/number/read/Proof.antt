@@ -3,10 +3,6 @@ use mathlib.Core.Path.{sym, _∙_}
 use borrow.Author.Needs.{needs}
 use Rattle.bench.proofs.number.read.Statement.{statement}
 use Rattle.bench.proofs.number.read.Tie as tie
-use Rattle.bench.proofs.number.read.Reads as reads
-use Rattle.bench.proofs.number.read.Lts as lts
-use Rattle.bench.proofs.number.is_hex.Reads as is-hex-reads
-use Rattle.bench.proofs.number.numeral.Reads as numeral-reads
 
 is-hex-requires : tie.Need-is-hex-requires
 is-hex-requires c κs = search needs

@@ -1,19 +1,12 @@
 use Rattle.bench.specs.Laws.{stored}
 use Rattle.bench.specs.Pairs.{pairAt}
 use lib.ListN.{getD, length}
-use lib.Dec.{eqb, leb, ltb}
 use borrow.Author.Needs.{needs}
 use native.Mathlib.Omega.{arith}
-use mathlib.Core.Logic.{⊎-elim}
-use mathlib.Core.List.{List, []}
-use mathlib.Core.Bool.{Bool, true, false, cond, _&&_}
-use mathlib.Core.Path.{_≡_, sym, ap, _∙_, refl}
-use Prim.Native.Nat.{ℕ, suc, _+_, _-_, _*_, _≤_, _<_}
+use mathlib.Core.Path.{_≡_}
+use Prim.Native.Nat.{ℕ, _-_, _≤_, _<_}
 use Rattle.bench.proofs.pairs.decode.Statement.{statement}
 use Rattle.bench.proofs.pairs.decode.Tie as tie
-use Rattle.bench.proofs.pairs.decode.Reads as reads
-use Rattle.bench.proofs.pairs.decode.Lts as lts
-use Rattle.bench.proofs.pairs.pair.Reads as pair-reads
 
 abbrev Inv-loop : tie.InvT-loop
 Inv-loop word k data₀ i₀ «data» i =

@@ -4,9 +4,6 @@ use native.Mathlib.Omega.{arith}
 use borrow.Author.Needs.{needs}
 use Rattle.bench.proofs.pairs.pair.Statement.{statement}
 use Rattle.bench.proofs.pairs.pair.Tie as tie
-use Rattle.bench.proofs.pairs.pair.Reads as reads
-use Rattle.bench.proofs.pairs.pair.Lts as lts
-use Rattle.bench.proofs.digit.value_of.Reads as value-of-reads
 
 mul-value-of : tie.Need-mul-value-of
 mul-value-of c = search needs

@@ -1,18 +1,11 @@
 use lib.ListN.{length-set}
-use lib.ListN.{getD, length}
-use lib.Dec.{eqb, leb, ltb}
+use lib.ListN.{length}
 use borrow.Author.Needs.{needs}
 use native.Mathlib.Omega.{arith}
-use mathlib.Core.Logic.{⊎-elim}
-use mathlib.Core.List.{List, []}
-use mathlib.Core.Bool.{Bool, true, false, cond, _&&_}
-use mathlib.Core.Path.{_≡_, sym, ap, _∙_, refl}
-use Prim.Native.Nat.{ℕ, suc, _+_, _-_, _*_, _≤_, _<_}
+use mathlib.Core.Path.{_≡_}
+use Prim.Native.Nat.{_-_, _≤_}
 use Rattle.bench.proofs.put.digits.Statement.{statement}
 use Rattle.bench.proofs.put.digits.Tie as tie
-use Rattle.bench.proofs.put.digits.Reads as reads
-use Rattle.bench.proofs.put.digits.Lts as lts
-use Rattle.bench.proofs.digit.digit_of.Reads as digit-of-reads
 
 abbrev Inv-loop : tie.InvT-loop
 Inv-loop out₀ at part i₀ out i =

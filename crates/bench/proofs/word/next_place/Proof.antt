@@ -1,17 +1,8 @@
-use lib.ListN.{getD, length}
-use lib.Dec.{eqb, leb, ltb}
+use lib.ListN.{length}
 use borrow.Author.Needs.{needs}
-use native.Mathlib.Omega.{arith}
-use mathlib.Core.Logic.{⊎-elim}
-use mathlib.Core.List.{List, []}
-use mathlib.Core.Bool.{Bool, true, false, cond, _&&_}
-use mathlib.Core.Path.{_≡_, sym, ap, _∙_, refl}
-use Prim.Native.Nat.{ℕ, suc, _+_, _-_, _*_, _≤_, _<_}
+use Prim.Native.Nat.{_-_, _≤_}
 use Rattle.bench.proofs.word.next_place.Statement.{statement}
 use Rattle.bench.proofs.word.next_place.Tie as tie
-use Rattle.bench.proofs.word.next_place.Reads as reads
-use Rattle.bench.proofs.word.next_place.Lts as lts
-use Rattle.bench.proofs.word.is_blank.Reads as is-blank-reads
 
 abbrev Inv-loop : tie.InvT-loop
 Inv-loop line from blank i₀ i =

@@ -2,8 +2,6 @@ use Rattle.capi.specs.laws.Words.{direction-some}
 use borrow.Author.Needs.{needs}
 use Rattle.capi.proofs.alignment.direction_of.Statement.{statement}
 use Rattle.capi.proofs.alignment.direction_of.Tie as tie
-use Rattle.capi.proofs.alignment.direction_of.Reads as reads
-use Rattle.capi.proofs.alignment.direction_of.Lts as lts
 
 returns : tie.Need-returns
 returns c = search needs

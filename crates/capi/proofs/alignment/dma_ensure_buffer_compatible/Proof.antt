@@ -2,16 +2,11 @@ use Rattle.capi.specs.Alignment.{compatibleNumber}
 use Rattle.capi.specs.Answer.{doneNumber}
 use Rattle.burst.specs.Burst.{compatibleOf}
 use Rattle.descriptors.specs.declared.record.TransferDirection.{TransferDirection}
-use borrow.Author.Tests.{eq-eqb, ne-eqb, lt-ltb, le-ltb, le-leb, lt-leb, not-true, not-false}
-use mathlib.Core.Path.{_≡_, sym, ap, _∙_, refl}
+use borrow.Author.Tests.{le-leb, lt-leb}
+use mathlib.Core.Path.{sym, ap, _∙_}
 use borrow.Author.Needs.{needs}
 use Rattle.capi.proofs.alignment.dma_ensure_buffer_compatible.Statement.{statement}
 use Rattle.capi.proofs.alignment.dma_ensure_buffer_compatible.Tie as tie
-use Rattle.capi.proofs.alignment.dma_ensure_buffer_compatible.Reads as reads
-use Rattle.capi.proofs.alignment.dma_ensure_buffer_compatible.Lts as lts
-use Rattle.burst.proofs.ensure_buffer_compatible.Reads as ensure-buffer-compatible-reads
-use Rattle.capi.proofs.alignment.direction_of.Reads as direction-of-reads
-use Rattle.capi.proofs.answer.done.Reads as done-reads
 
 returns : tie.Need-returns
 unfolding compatibleNumber

@@ -1,10 +1,8 @@
 use Rattle.capi.specs.Answer.{countedSaid}
-use mathlib.Core.Path.{_≡_, sym, ap, _∙_, refl}
+use mathlib.Core.Path.{sym, ap}
 use borrow.Author.Needs.{needs}
 use Rattle.capi.proofs.answer.counted.Statement.{statement}
 use Rattle.capi.proofs.answer.counted.Tie as tie
-use Rattle.capi.proofs.answer.counted.Reads as reads
-use Rattle.capi.proofs.answer.counted.Lts as lts
 
 enum-known-answer : tie.Need-enum-known-answer
 enum-known-answer c = search needs

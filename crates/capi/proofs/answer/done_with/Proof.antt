@@ -1,10 +1,8 @@
 use Rattle.capi.specs.Answer.{doneSaid}
-use mathlib.Core.Path.{_≡_, sym, ap, _∙_, refl}
+use mathlib.Core.Path.{sym, ap}
 use borrow.Author.Needs.{needs}
 use Rattle.capi.proofs.answer.done_with.Statement.{statement}
 use Rattle.capi.proofs.answer.done_with.Tie as tie
-use Rattle.capi.proofs.answer.done_with.Reads as reads
-use Rattle.capi.proofs.answer.done_with.Lts as lts
 
 enum-told : tie.Need-enum-told
 enum-told c = search needs

@@ -1,12 +1,8 @@
 use Rattle.capi.specs.Answer.{saidNumber, saidIn}
-use mathlib.Core.Path.{_≡_, sym, ap, _∙_, refl}
+use mathlib.Core.Path.{sym, ap, _∙_}
 use borrow.Author.Needs.{needs}
 use Rattle.capi.proofs.answer.put.Statement.{statement}
 use Rattle.capi.proofs.answer.put.Tie as tie
-use Rattle.capi.proofs.answer.put.Reads as reads
-use Rattle.capi.proofs.answer.put.Lts as lts
-use Rattle.capi.proofs.answer.number.Reads as number-reads
-use Rattle.capi.proofs.answer.store.Reads as store-reads
 
 enum-known-said : tie.Need-enum-known-said
 enum-known-said c = search needs

@@ -2,13 +2,11 @@ use Rattle.capi.specs.laws.Words.{three-stored}
 use Rattle.capi.specs.Answer.{answered}
 use lib.ListN.{length-set}
 use native.Mathlib.Omega.{arith}
-use borrow.Author.Tests.{eq-eqb, ne-eqb, lt-ltb, le-ltb, le-leb, lt-leb, not-true, not-false}
-use mathlib.Core.Path.{_≡_, sym, ap, _∙_, refl}
+use borrow.Author.Tests.{le-leb, lt-leb}
+use mathlib.Core.Path.{sym}
 use borrow.Author.Needs.{needs}
 use Rattle.capi.proofs.answer.store.Statement.{statement}
 use Rattle.capi.proofs.answer.store.Tie as tie
-use Rattle.capi.proofs.answer.store.Reads as reads
-use Rattle.capi.proofs.answer.store.Lts as lts
 
 returns : tie.Need-returns
 unfolding answered

@@ -1,10 +1,8 @@
 use Rattle.capi.specs.Answer.{tookSaid}
-use mathlib.Core.Path.{_≡_, sym, ap, _∙_, refl}
+use mathlib.Core.Path.{sym, ap}
 use borrow.Author.Needs.{needs}
 use Rattle.capi.proofs.answer.took.Statement.{statement}
 use Rattle.capi.proofs.answer.took.Tie as tie
-use Rattle.capi.proofs.answer.took.Reads as reads
-use Rattle.capi.proofs.answer.took.Lts as lts
 
 enum-known-answer : tie.Need-enum-known-answer
 enum-known-answer c = search needs

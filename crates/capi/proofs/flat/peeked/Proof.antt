@@ -10,20 +10,15 @@ use Rattle.rx_stream.specs.Receive.{flatBytes}
 use Rattle.rx_stream.specs.laws.Flats.{flat-like, cells-like}
 use Rattle.rx_stream.specs.laws.Takes.{unsound, known, held}
 use Rattle.rx_stream.specs.laws.Parts.{Part, part}
-use mathlib.Core.Bool.{Bool, true}
-use mathlib.Core.List.{List, []}
-use Prim.Native.Nat.{ℕ, _+_, _-_}
+use mathlib.Core.Bool.{true}
+use mathlib.Core.List.{[]}
+use Prim.Native.Nat.{_-_}
 use native.Mathlib.Omega.{arith}
-use borrow.Author.Tests.{eq-eqb, ne-eqb, lt-ltb, le-ltb, le-leb, lt-leb, not-true, not-false}
-use mathlib.Core.Path.{_≡_, sym, ap, _∙_, refl}
+use borrow.Author.Tests.{le-leb}
+use mathlib.Core.Path.{_≡_, sym, ap, _∙_}
 use borrow.Author.Needs.{needs}
 use Rattle.capi.proofs.flat.peeked.Statement.{statement}
 use Rattle.capi.proofs.flat.peeked.Tie as tie
-use Rattle.capi.proofs.flat.peeked.Reads as reads
-use Rattle.capi.proofs.flat.peeked.Lts as lts
-use Rattle.capi.proofs.flat.flat_bytes.Reads as flat-bytes-reads
-use Rattle.descriptors.proofs.cells.start_of.Reads as start-of-reads
-use Rattle.descriptors.proofs.ring.judge.Reads as judge-reads
 
 passed : (c : tie.After-enum-told) → let a = c .before .before .before .before .before .args in sound In (ringOf (a .s .now) (a .w .now) (a .h)) (a .len) ≡ true
 passed c = ready-split _ _ (c .before .before .judge .ensures) (c .enum-told .given .1)

@@ -1,20 +1,16 @@
 use Rattle.capi.specs.laws.Calls.{until-no, until-yes}
-use Rattle.descriptors.specs.Record.{recordIn}
+use Rattle.descriptors.specs.Record.{limit, recordIn}
+use borrow.Author.Tests.{le-leb}
 use Rattle.descriptors.specs.Cells.{recordsOf, recordAt, eofCell}
 use Rattle.descriptors.specs.Ring.{ringOf}
 use Rattle.rx_stream.specs.laws.Flats.{eof-like, cells-like}
-use Rattle.rx_stream.specs.laws.Takes.{held}
-use mathlib.Core.List.{List, []}
-use Prim.Native.Nat.{ℕ, _+_, _-_}
-use mathlib.Core.Path.{_≡_, sym, ap, _∙_, refl}
+use Rattle.rx_stream.specs.laws.Takes.{known, held}
+use mathlib.Core.List.{[]}
+use Prim.Native.Nat.{_-_}
+use mathlib.Core.Path.{sym, ap, _∙_}
 use borrow.Author.Needs.{needs}
 use Rattle.capi.proofs.flat.until_eof.Statement.{statement}
 use Rattle.capi.proofs.flat.until_eof.Tie as tie
-use Rattle.capi.proofs.flat.until_eof.Reads as reads
-use Rattle.capi.proofs.flat.until_eof.Lts as lts
-use Rattle.capi.proofs.flat.flat_eof.Reads as flat-eof-reads
-use Rattle.capi.proofs.flat.mark.Reads as mark-reads
-use Rattle.capi.proofs.flat.peeked.Reads as peeked-reads
 
 peeked-requires : tie.Need-peeked-requires
 peeked-requires c κs = search needs
@@ -46,7 +42,8 @@ returns-2 c =
     let t = m .before .before .before in
     let a = t .args in
     let y = until-yes (ringOf (a .s .now) (a .w .now) (a .h)) (a .len) _ _ _ (sym (m .peeked .ensures) ∙ x .said .given .1) in
-    let k = f .flat-eof .ensures ∙ eof-like (recordAt [] (a .w .now)) (recordIn (recordsOf (a .s .now) (a .w .now))) (cells-like (a .s .now) (a .w .now) (held (a .s .now) (a .w .now) (a .h) (a .len) (y .sound))) (a .h .count - a .h .«descriptor_idx») (a .h .«descriptor_idx») in
+    let few = le-leb (a .h .count) limit (known (a .s .now) (a .w .now) (a .h) (a .len) (y .sound) .split .parts .many) in
+    let k = (rw few at (f .flat-eof .ensures)) ∙ eof-like (recordAt [] (a .w .now)) (recordIn (recordsOf (a .s .now) (a .w .now))) (cells-like (a .s .now) (a .w .now) (held (a .s .now) (a .w .now) (a .h) (a .len) (y .sound))) (a .h .count - a .h .«descriptor_idx») (a .h .«descriptor_idx») in
     y .words _ (c .mark .ensures ∙ ap eofCell k)
 
 pub until-eof-spec : {M : Type 1} → statement M

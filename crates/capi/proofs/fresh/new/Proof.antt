@@ -4,16 +4,11 @@ use lib.ListN.{length}
 use Rattle.capi.specs.laws.Calls.{head-if-not}
 use Rattle.capi.specs.New.{newStarts, newCells, newHead, newNumber}
 use Rattle.capi.specs.Answer.{doneNumber}
-use borrow.Author.Tests.{eq-eqb, ne-eqb, lt-ltb, le-ltb, le-leb, lt-leb, not-true, not-false}
-use mathlib.Core.Path.{_≡_, sym, ap, _∙_, refl}
+use borrow.Author.Tests.{eq-eqb, ne-eqb}
+use mathlib.Core.Path.{sym, ap, _∙_}
 use borrow.Author.Needs.{needs}
 use Rattle.capi.proofs.fresh.new.Statement.{statement}
 use Rattle.capi.proofs.fresh.new.Tie as tie
-use Rattle.capi.proofs.fresh.new.Reads as reads
-use Rattle.capi.proofs.fresh.new.Lts as lts
-use Rattle.capi.proofs.answer.done.Reads as done-reads
-use Rattle.capi.proofs.fresh.put_if.Reads as put-if-reads
-use Rattle.descriptors.proofs.ring.new_in.Reads as new-in-reads
 
 returns : tie.Need-returns
 unfolding newStarts newCells newHead newNumber

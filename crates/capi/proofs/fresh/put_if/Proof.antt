@@ -1,12 +1,9 @@
 use Rattle.capi.specs.New.{headIf}
 use Rattle.descriptors.specs.declared.refusal.Done.{Done}
-use mathlib.Core.Path.{_≡_, sym, ap, _∙_, refl}
+use mathlib.Core.Path.{sym, ap, _∙_}
 use borrow.Author.Needs.{needs}
 use Rattle.capi.proofs.fresh.put_if.Statement.{statement}
 use Rattle.capi.proofs.fresh.put_if.Tie as tie
-use Rattle.capi.proofs.fresh.put_if.Reads as reads
-use Rattle.capi.proofs.fresh.put_if.Lts as lts
-use Rattle.capi.proofs.words.put.Reads as put-reads
 
 enum-told : tie.Need-enum-told
 enum-told c = search needs

@@ -4,16 +4,10 @@ use Rattle.tx_stream.specs.laws.Room.{offset-fits, place-in}
 use Rattle.descriptors.specs.Ring.{ringOf}
 use Prim.Native.Nat.{ℕ, _+_, _-_, min}
 use native.Mathlib.Omega.{arith}
-use borrow.Author.Tests.{eq-eqb, ne-eqb, lt-ltb, le-ltb, le-leb, lt-leb, not-true, not-false}
-use mathlib.Core.Path.{_≡_, sym, ap, _∙_, refl}
+use mathlib.Core.Path.{sym, ap, _∙_}
 use borrow.Author.Needs.{needs}
 use Rattle.capi.proofs.offer.offered.Statement.{statement}
 use Rattle.capi.proofs.offer.offered.Tie as tie
-use Rattle.capi.proofs.offer.offered.Reads as reads
-use Rattle.capi.proofs.offer.offered.Lts as lts
-use Rattle.capi.proofs.offer.least.Reads as least-reads
-use Rattle.descriptors.proofs.cells.start_of.Reads as start-of-reads
-use Rattle.tx_stream.proofs.in_place.available_in.Reads as available-in-reads
 
 available-in-requires : tie.Need-available-in-requires
 available-in-requires c κs = search needs

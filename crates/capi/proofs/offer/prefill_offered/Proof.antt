@@ -3,13 +3,10 @@ use Rattle.capi.specs.Parts.{prefillOfferSaid}
 use Rattle.descriptors.specs.laws.Sound.{split-facts}
 use Rattle.descriptors.specs.Ring.{ringOf}
 use native.Mathlib.Omega.{arith}
-use mathlib.Core.Path.{_≡_, sym, ap, _∙_, refl}
+use mathlib.Core.Path.{sym, _∙_}
 use borrow.Author.Needs.{needs}
 use Rattle.capi.proofs.offer.prefill_offered.Statement.{statement}
 use Rattle.capi.proofs.offer.prefill_offered.Tie as tie
-use Rattle.capi.proofs.offer.prefill_offered.Reads as reads
-use Rattle.capi.proofs.offer.prefill_offered.Lts as lts
-use Rattle.tx_stream.proofs.prefill.prefill_offer_refusal_in.Reads as prefill-offer-refusal-in-reads
 
 prefill-offer-refusal-in-requires : tie.Need-prefill-offer-refusal-in-requires
 prefill-offer-refusal-in-requires c κs = search needs

@@ -2,8 +2,6 @@ use Rattle.capi.specs.laws.Words.{chip-some}
 use borrow.Author.Needs.{needs}
 use Rattle.capi.proofs.pieces.chip_of.Statement.{statement}
 use Rattle.capi.proofs.pieces.chip_of.Tie as tie
-use Rattle.capi.proofs.pieces.chip_of.Reads as reads
-use Rattle.capi.proofs.pieces.chip_of.Lts as lts
 
 returns : tie.Need-returns
 returns c = search needs

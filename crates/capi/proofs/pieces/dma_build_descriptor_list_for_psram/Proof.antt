@@ -3,18 +3,11 @@ use Rattle.capi.specs.Pieces.{pieceReady, listedSaid}
 use Rattle.psram.specs.List.{listOf}
 use Rattle.descriptors.specs.Cells.{recordsOf, startsNow, cellsNow}
 use Rattle.psram.specs.declared.chip.Chip.{Chip}
-use borrow.Author.Tests.{eq-eqb, ne-eqb, lt-ltb, le-ltb, le-leb, lt-leb, not-true, not-false}
-use mathlib.Core.Path.{_≡_, sym, ap, _∙_, refl}
+use borrow.Author.Tests.{not-true, not-false}
+use mathlib.Core.Path.{sym, ap, _∙_}
 use borrow.Author.Needs.{needs}
 use Rattle.capi.proofs.pieces.dma_build_descriptor_list_for_psram.Statement.{statement}
 use Rattle.capi.proofs.pieces.dma_build_descriptor_list_for_psram.Tie as tie
-use Rattle.capi.proofs.pieces.dma_build_descriptor_list_for_psram.Reads as reads
-use Rattle.capi.proofs.pieces.dma_build_descriptor_list_for_psram.Lts as lts
-use Rattle.capi.proofs.answer.put.Reads as put-reads
-use Rattle.capi.proofs.pieces.chip_of.Reads as chip-of-reads
-use Rattle.capi.proofs.pieces.piece_ready.Reads as piece-ready-reads
-use Rattle.capi.proofs.pieces.said_listed.Reads as said-listed-reads
-use Rattle.psram.proofs.list.build_descriptor_list_for_psram.Reads as build-descriptor-list-for-psram-reads
 
 piece-ready-requires : tie.Need-piece-ready-requires
 piece-ready-requires c κs = search needs

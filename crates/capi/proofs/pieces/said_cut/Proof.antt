@@ -1,10 +1,8 @@
 use Rattle.capi.specs.Pieces.{cutSaid}
-use mathlib.Core.Path.{_≡_, sym, ap, _∙_, refl}
+use mathlib.Core.Path.{sym, ap}
 use borrow.Author.Needs.{needs}
 use Rattle.capi.proofs.pieces.said_cut.Statement.{statement}
 use Rattle.capi.proofs.pieces.said_cut.Tie as tie
-use Rattle.capi.proofs.pieces.said_cut.Reads as reads
-use Rattle.capi.proofs.pieces.said_cut.Lts as lts
 
 enum-known-outcome : tie.Need-enum-known-outcome
 enum-known-outcome c = search needs

@@ -1,10 +1,8 @@
 use Rattle.capi.specs.Pieces.{heldSaid}
-use mathlib.Core.Path.{_≡_, sym, ap, _∙_, refl}
+use mathlib.Core.Path.{sym, ap}
 use borrow.Author.Needs.{needs}
 use Rattle.capi.proofs.pieces.said_held.Statement.{statement}
 use Rattle.capi.proofs.pieces.said_held.Tie as tie
-use Rattle.capi.proofs.pieces.said_held.Reads as reads
-use Rattle.capi.proofs.pieces.said_held.Lts as lts
 
 enum-known-outcome : tie.Need-enum-known-outcome
 enum-known-outcome c = search needs

@@ -1,10 +1,8 @@
 use Rattle.capi.specs.Pieces.{listedSaid}
-use mathlib.Core.Path.{_≡_, sym, ap, _∙_, refl}
+use mathlib.Core.Path.{sym, ap}
 use borrow.Author.Needs.{needs}
 use Rattle.capi.proofs.pieces.said_listed.Statement.{statement}
 use Rattle.capi.proofs.pieces.said_listed.Tie as tie
-use Rattle.capi.proofs.pieces.said_listed.Reads as reads
-use Rattle.capi.proofs.pieces.said_listed.Lts as lts
 
 enum-known-outcome : tie.Need-enum-known-outcome
 enum-known-outcome c = search needs

@@ -1,19 +1,11 @@
 use Rattle.rx_stream.specs.Receive.{availableOf}
 use Rattle.capi.specs.laws.Lent.{said-lent}
 use Rattle.capi.specs.Answer.{hasRoom, countedSaid}
-use mathlib.Core.Bool.{Bool, true, false}
 use Rattle.descriptors.specs.Ring.{Ring}
-use mathlib.Core.Path.{_≡_, sym, ap, _∙_, refl}
+use mathlib.Core.Path.{ap, _∙_}
 use borrow.Author.Needs.{needs}
 use Rattle.capi.proofs.receive.dma_rx_available_bytes.Statement.{statement}
 use Rattle.capi.proofs.receive.dma_rx_available_bytes.Tie as tie
-use Rattle.capi.proofs.receive.dma_rx_available_bytes.Reads as reads
-use Rattle.capi.proofs.receive.dma_rx_available_bytes.Lts as lts
-use Rattle.capi.proofs.answer.counted.Reads as counted-reads
-use Rattle.capi.proofs.answer.has_room.Reads as has-room-reads
-use Rattle.capi.proofs.answer.put.Reads as put-reads
-use Rattle.capi.proofs.words.head_of.Reads as head-of-reads
-use Rattle.rx_stream.proofs.in_place.available_in.Reads as available-in-reads
 
 has-room-requires : tie.Need-has-room-requires
 has-room-requires c κs = search needs

@@ -6,22 +6,11 @@ use Rattle.descriptors.specs.declared.record.Next.{Next}
 use Rattle.descriptors.specs.Cells.{cellsNow, eofOf}
 use Rattle.descriptors.specs.Ring.{Ring, ringOf}
 use lib.ListN.{length}
-use mathlib.Core.List.{List}
 use mathlib.Core.Bool.{Bool}
-use mathlib.Core.Path.{_≡_, sym, ap, _∙_, refl}
+use mathlib.Core.Path.{ap, _∙_}
 use borrow.Author.Needs.{needs}
 use Rattle.capi.proofs.steps.dma_rx_step.Statement.{statement}
 use Rattle.capi.proofs.steps.dma_rx_step.Tie as tie
-use Rattle.capi.proofs.steps.dma_rx_step.Reads as reads
-use Rattle.capi.proofs.steps.dma_rx_step.Lts as lts
-use Rattle.capi.proofs.answer.done_with.Reads as done-with-reads
-use Rattle.capi.proofs.answer.put.Reads as put-reads
-use Rattle.capi.proofs.steps.is_eof.Reads as is-eof-reads
-use Rattle.capi.proofs.steps.step_ready.Reads as step-ready-reads
-use Rattle.capi.proofs.words.head_of.Reads as head-of-reads
-use Rattle.capi.proofs.words.place_of.Reads as place-of-reads
-use Rattle.capi.proofs.words.put_place.Reads as put-place-reads
-use Rattle.device.proofs.receive.receive_step_in.Reads as receive-step-in-reads
 
 step-ready-requires : tie.Need-step-ready-requires
 step-ready-requires c κs = search needs

@@ -1,25 +1,15 @@
 use Rattle.capi.specs.laws.Lent.{step-lent, place-lent, step-said}
 use Rattle.capi.specs.Steps.{stepReady}
-use Rattle.capi.specs.Answer.{doneSaid, countedSaid}
-use Rattle.device.specs.Device.{receiveOf, receiveInto, transmitOf, transmitOver}
+use Rattle.capi.specs.Answer.{countedSaid}
+use Rattle.device.specs.Device.{transmitOf, transmitOver}
 use Rattle.descriptors.specs.declared.record.Next.{Next}
-use Rattle.descriptors.specs.Cells.{cellsNow, eofOf}
+use Rattle.descriptors.specs.Cells.{cellsNow}
 use Rattle.descriptors.specs.Ring.{Ring}
 use lib.ListN.{length}
-use mathlib.Core.List.{List}
-use mathlib.Core.Path.{_≡_, sym, ap, _∙_, refl}
+use mathlib.Core.Path.{ap, _∙_}
 use borrow.Author.Needs.{needs}
 use Rattle.capi.proofs.steps.dma_tx_step.Statement.{statement}
 use Rattle.capi.proofs.steps.dma_tx_step.Tie as tie
-use Rattle.capi.proofs.steps.dma_tx_step.Reads as reads
-use Rattle.capi.proofs.steps.dma_tx_step.Lts as lts
-use Rattle.capi.proofs.answer.counted.Reads as counted-reads
-use Rattle.capi.proofs.answer.put.Reads as put-reads
-use Rattle.capi.proofs.steps.step_ready.Reads as step-ready-reads
-use Rattle.capi.proofs.words.head_of.Reads as head-of-reads
-use Rattle.capi.proofs.words.place_of.Reads as place-of-reads
-use Rattle.capi.proofs.words.put_place.Reads as put-place-reads
-use Rattle.device.proofs.transmit.transmit_step_in.Reads as transmit-step-in-reads
 
 step-ready-requires : tie.Need-step-ready-requires
 step-ready-requires c κs = search needs

@@ -1,5 +1,4 @@
 use Rattle.descriptors.specs.laws.Marks.{eof-some}
-use borrow.Author.Needs.{needs}
 use Rattle.capi.proofs.steps.is_eof.Statement.{statement}
 use Rattle.capi.proofs.steps.is_eof.Tie as tie
 

@@ -1,13 +1,9 @@
 use Rattle.capi.specs.Steps.{stepReady}
-use borrow.Author.Tests.{eq-eqb, ne-eqb, lt-ltb, le-ltb, le-leb, lt-leb, not-true, not-false}
-use mathlib.Core.Path.{_≡_, sym, ap, _∙_, refl}
+use borrow.Author.Tests.{le-leb, lt-leb, not-true, not-false}
+use mathlib.Core.Path.{sym, _∙_}
 use borrow.Author.Needs.{needs}
 use Rattle.capi.proofs.steps.step_ready.Statement.{statement}
 use Rattle.capi.proofs.steps.step_ready.Tie as tie
-use Rattle.capi.proofs.steps.step_ready.Reads as reads
-use Rattle.capi.proofs.steps.step_ready.Lts as lts
-use Rattle.capi.proofs.answer.has_room.Reads as has-room-reads
-use Rattle.capi.proofs.words.is_place.Reads as is-place-reads
 
 returns : tie.Need-returns
 unfolding stepReady

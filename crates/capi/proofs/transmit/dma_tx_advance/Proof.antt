@@ -3,22 +3,11 @@ use Rattle.tx_stream.specs.Transmit.{advanceOf}
 use Rattle.capi.specs.laws.Lent.{lent, head-lent, said-lent}
 use Rattle.capi.specs.Answer.{hasRoom, countedSaid}
 use Rattle.descriptors.specs.Cells.{cellsNow}
-use lib.ListN.{length}
-use Prim.Native.Nat.{ℕ}
-use mathlib.Core.List.{List}
 use Rattle.descriptors.specs.Ring.{Ring, headOf}
-use mathlib.Core.Path.{_≡_, sym, ap, _∙_, refl}
+use mathlib.Core.Path.{ap, _∙_}
 use borrow.Author.Needs.{needs}
 use Rattle.capi.proofs.transmit.dma_tx_advance.Statement.{statement}
 use Rattle.capi.proofs.transmit.dma_tx_advance.Tie as tie
-use Rattle.capi.proofs.transmit.dma_tx_advance.Reads as reads
-use Rattle.capi.proofs.transmit.dma_tx_advance.Lts as lts
-use Rattle.capi.proofs.answer.counted.Reads as counted-reads
-use Rattle.capi.proofs.answer.has_room.Reads as has-room-reads
-use Rattle.capi.proofs.answer.put.Reads as put-reads
-use Rattle.capi.proofs.words.head_of.Reads as head-of-reads
-use Rattle.capi.proofs.words.put_head.Reads as put-head-reads
-use Rattle.tx_stream.proofs.in_place.advance_in.Reads as advance-in-reads
 
 has-room-requires : tie.Need-has-room-requires
 has-room-requires c κs = search needs

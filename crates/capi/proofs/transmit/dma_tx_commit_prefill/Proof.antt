@@ -1,24 +1,12 @@
 use Rattle.tx_stream.specs.declared.answer.Accepting.{Accepting}
 use Rattle.tx_stream.specs.Transmit.{prefillCommitOf}
-use Rattle.capi.specs.laws.Lent.{lent, head-lent, said-lent}
+use Rattle.capi.specs.laws.Lent.{head-lent, said-lent}
 use Rattle.capi.specs.Answer.{hasRoom, countedSaid}
-use Rattle.descriptors.specs.Cells.{cellsNow}
-use lib.ListN.{length}
-use Prim.Native.Nat.{ℕ}
-use mathlib.Core.List.{List}
 use Rattle.descriptors.specs.Ring.{Ring, headOf}
-use mathlib.Core.Path.{_≡_, sym, ap, _∙_, refl}
+use mathlib.Core.Path.{ap, _∙_}
 use borrow.Author.Needs.{needs}
 use Rattle.capi.proofs.transmit.dma_tx_commit_prefill.Statement.{statement}
 use Rattle.capi.proofs.transmit.dma_tx_commit_prefill.Tie as tie
-use Rattle.capi.proofs.transmit.dma_tx_commit_prefill.Reads as reads
-use Rattle.capi.proofs.transmit.dma_tx_commit_prefill.Lts as lts
-use Rattle.capi.proofs.answer.counted.Reads as counted-reads
-use Rattle.capi.proofs.answer.has_room.Reads as has-room-reads
-use Rattle.capi.proofs.answer.put.Reads as put-reads
-use Rattle.capi.proofs.words.head_of.Reads as head-of-reads
-use Rattle.capi.proofs.words.put_head.Reads as put-head-reads
-use Rattle.tx_stream.proofs.prefill.prefill_commit_in.Reads as prefill-commit-in-reads
 
 has-room-requires : tie.Need-has-room-requires
 has-room-requires c κs = search needs

@@ -4,18 +4,11 @@ use Rattle.descriptors.specs.declared.ring.Headed.{Headed}
 use Rattle.tx_stream.specs.Transmit.{prepareOf}
 use Rattle.descriptors.specs.Cells.{cellsNow}
 use mathlib.Core.Bool.{true}
-use mathlib.Core.List.{List}
 use Rattle.descriptors.specs.Ring.{Ring, headOf}
-use mathlib.Core.Path.{_≡_, sym, ap, _∙_, refl}
+use mathlib.Core.Path.{ap, _∙_, refl}
 use borrow.Author.Needs.{needs}
 use Rattle.capi.proofs.transmit.dma_tx_prepare.Statement.{statement}
 use Rattle.capi.proofs.transmit.dma_tx_prepare.Tie as tie
-use Rattle.capi.proofs.transmit.dma_tx_prepare.Reads as reads
-use Rattle.capi.proofs.transmit.dma_tx_prepare.Lts as lts
-use Rattle.capi.proofs.answer.done.Reads as done-reads
-use Rattle.capi.proofs.words.head_of.Reads as head-of-reads
-use Rattle.capi.proofs.words.put_head.Reads as put-head-reads
-use Rattle.tx_stream.proofs.prepare.prepare_in.Reads as prepare-in-reads
 
 head-of-requires : tie.Need-head-of-requires
 head-of-requires c κs = search needs

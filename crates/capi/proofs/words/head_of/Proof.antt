@@ -2,16 +2,11 @@ use Rattle.capi.specs.laws.Words.{head-five, head-round}
 use Rattle.capi.specs.Words.{isHead, headIn}
 use mathlib.Core.Bool.{true}
 use native.Mathlib.Omega.{arith}
-use borrow.Author.Tests.{eq-eqb, ne-eqb, lt-ltb, le-ltb, le-leb, lt-leb, not-true, not-false}
-use mathlib.Core.Path.{_≡_, sym, ap, _∙_, refl}
+use borrow.Author.Tests.{not-true, not-false}
+use mathlib.Core.Path.{_≡_, sym, _∙_}
 use borrow.Author.Needs.{needs}
 use Rattle.capi.proofs.words.head_of.Statement.{statement}
 use Rattle.capi.proofs.words.head_of.Tie as tie
-use Rattle.capi.proofs.words.head_of.Reads as reads
-use Rattle.capi.proofs.words.head_of.Lts as lts
-use Rattle.capi.proofs.words.is_head.Reads as is-head-reads
-use Rattle.capi.proofs.words.no_head.Reads as no-head-reads
-use Rattle.capi.proofs.words.size.Reads as size-reads
 
 here : (c : tie.Else2) → isHead (c .before .before .before .before .args .head .now) ≡ true
 here c = sym (c .before .is-head .ensures) ∙ not-false (c .before .is-head .result) (c .if2 .left)

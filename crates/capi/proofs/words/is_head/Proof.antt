@@ -1,11 +1,9 @@
 use Rattle.capi.specs.Words.{isHead}
-use borrow.Author.Tests.{eq-eqb, ne-eqb, lt-ltb, le-ltb, le-leb, lt-leb, not-true, not-false}
-use mathlib.Core.Path.{_≡_, sym, ap, _∙_, refl}
+use borrow.Author.Tests.{eq-eqb, ne-eqb}
+use mathlib.Core.Path.{sym}
 use borrow.Author.Needs.{needs}
 use Rattle.capi.proofs.words.is_head.Statement.{statement}
 use Rattle.capi.proofs.words.is_head.Tie as tie
-use Rattle.capi.proofs.words.is_head.Reads as reads
-use Rattle.capi.proofs.words.is_head.Lts as lts
 
 returns : tie.Need-returns
 unfolding isHead

@@ -1,11 +1,9 @@
 use Rattle.capi.specs.Words.{isPlace}
-use borrow.Author.Tests.{eq-eqb, ne-eqb, lt-ltb, le-ltb, le-leb, lt-leb, not-true, not-false}
-use mathlib.Core.Path.{_≡_, sym, ap, _∙_, refl}
+use borrow.Author.Tests.{eq-eqb, ne-eqb}
+use mathlib.Core.Path.{sym}
 use borrow.Author.Needs.{needs}
 use Rattle.capi.proofs.words.is_place.Statement.{statement}
 use Rattle.capi.proofs.words.is_place.Tie as tie
-use Rattle.capi.proofs.words.is_place.Reads as reads
-use Rattle.capi.proofs.words.is_place.Lts as lts
 
 returns : tie.Need-returns
 unfolding isPlace

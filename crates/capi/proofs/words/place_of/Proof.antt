@@ -3,14 +3,11 @@ use Rattle.capi.specs.Words.{isPlace, nextIn}
 use Rattle.descriptors.specs.laws.Marks.{next-some}
 use mathlib.Core.Bool.{true}
 use native.Mathlib.Omega.{arith}
-use borrow.Author.Tests.{eq-eqb, ne-eqb, lt-ltb, le-ltb, le-leb, lt-leb, not-true, not-false}
-use mathlib.Core.Path.{_≡_, sym, ap, _∙_, refl}
+use borrow.Author.Tests.{not-true, not-false}
+use mathlib.Core.Path.{_≡_, sym, _∙_}
 use borrow.Author.Needs.{needs}
 use Rattle.capi.proofs.words.place_of.Statement.{statement}
 use Rattle.capi.proofs.words.place_of.Tie as tie
-use Rattle.capi.proofs.words.place_of.Reads as reads
-use Rattle.capi.proofs.words.place_of.Lts as lts
-use Rattle.capi.proofs.words.is_place.Reads as is-place-reads
 
 here : (c : tie.Else2) → isPlace (c .before .before .before .before .args .device .now) ≡ true
 here c = sym (c .before .is-place .ensures) ∙ not-false (c .before .is-place .result) (c .if2 .left)

@@ -1,10 +1,8 @@
 use Rattle.descriptors.specs.Cells.{nextCell}
-use mathlib.Core.Path.{_≡_, sym, ap, _∙_, refl}
+use mathlib.Core.Path.{sym, ap}
 use borrow.Author.Needs.{needs}
 use Rattle.capi.proofs.words.place_word.Statement.{statement}
 use Rattle.capi.proofs.words.place_word.Tie as tie
-use Rattle.capi.proofs.words.place_word.Reads as reads
-use Rattle.capi.proofs.words.place_word.Lts as lts
 
 enum-told : tie.Need-enum-told
 enum-told c = search needs

@@ -2,14 +2,11 @@ use Rattle.capi.specs.laws.Words.{five-stored}
 use Rattle.capi.specs.Words.{headMade}
 use lib.ListN.{length-set}
 use native.Mathlib.Omega.{arith}
-use borrow.Author.Tests.{eq-eqb, ne-eqb, lt-ltb, le-ltb, le-leb, lt-leb, not-true, not-false}
-use mathlib.Core.Path.{_≡_, sym, ap, _∙_, refl}
+use borrow.Author.Tests.{eq-eqb, ne-eqb}
+use mathlib.Core.Path.{sym, _∙_}
 use borrow.Author.Needs.{needs}
 use Rattle.capi.proofs.words.put.Statement.{statement}
 use Rattle.capi.proofs.words.put.Tie as tie
-use Rattle.capi.proofs.words.put.Reads as reads
-use Rattle.capi.proofs.words.put.Lts as lts
-use Rattle.capi.proofs.words.word.Reads as word-reads
 
 returns : tie.Need-returns
 unfolding headMade

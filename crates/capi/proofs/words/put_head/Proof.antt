@@ -1,14 +1,10 @@
 use Rattle.capi.specs.laws.Words.{head-made}
 use Rattle.capi.specs.Words.{headNow}
-use borrow.Author.Tests.{eq-eqb, ne-eqb, lt-ltb, le-ltb, le-leb, lt-leb, not-true, not-false}
-use mathlib.Core.Path.{_≡_, sym, ap, _∙_, refl}
+use borrow.Author.Tests.{not-true, not-false}
+use mathlib.Core.Path.{sym, _∙_}
 use borrow.Author.Needs.{needs}
 use Rattle.capi.proofs.words.put_head.Statement.{statement}
 use Rattle.capi.proofs.words.put_head.Tie as tie
-use Rattle.capi.proofs.words.put_head.Reads as reads
-use Rattle.capi.proofs.words.put_head.Lts as lts
-use Rattle.capi.proofs.words.is_head.Reads as is-head-reads
-use Rattle.capi.proofs.words.put.Reads as put-reads
 
 returns : tie.Need-returns
 unfolding headNow

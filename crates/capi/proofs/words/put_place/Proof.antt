@@ -3,15 +3,11 @@ use Rattle.capi.specs.Words.{placeNow}
 use Prim.Native.Nat.{ℕ}
 use mathlib.Core.List.{[], _∷_}
 use native.Mathlib.Omega.{arith}
-use borrow.Author.Tests.{eq-eqb, ne-eqb, lt-ltb, le-ltb, le-leb, lt-leb, not-true, not-false}
-use mathlib.Core.Path.{_≡_, sym, ap, _∙_, refl}
+use borrow.Author.Tests.{not-true, not-false}
+use mathlib.Core.Path.{sym, ap, _∙_}
 use borrow.Author.Needs.{needs}
 use Rattle.capi.proofs.words.put_place.Statement.{statement}
 use Rattle.capi.proofs.words.put_place.Tie as tie
-use Rattle.capi.proofs.words.put_place.Reads as reads
-use Rattle.capi.proofs.words.put_place.Lts as lts
-use Rattle.capi.proofs.words.is_place.Reads as is-place-reads
-use Rattle.capi.proofs.words.place_word.Reads as place-word-reads
 
 returns : tie.Need-returns
 unfolding placeNow
