@@ -1,5 +1,7 @@
 //! The timing driver: every side does the same task in turn, many rounds, and the least of each counts.
 
+#[cfg(by_value)]
+mod by_value;
 mod ours;
 mod tasks;
 
@@ -45,19 +47,27 @@ fn rounds(task: &mut Task, sides: &mut [Box<dyn Side>]) -> Vec<Least> {
     least
 }
 
-/// Ratios to the first side, then nanoseconds a call.
-fn row(name: &str, least: &[Least]) -> String {
-    let ratios: String = least[1..].iter().map(|side| format!(" {:.2} |", side.nanos / least[0].nanos)).collect();
-    let times: String = least.iter().map(|side| format!(" {:.1} |", side.nanos)).collect();
-    format!("| {name} |{ratios}{times} {} |", least[0].calls)
+/// What is timed: the Rust's sides come first, and its first one is what ours are divided by.
+struct Table {
+    sides: Vec<Box<dyn Side>>,
+    theirs: usize,
 }
 
-fn header(sides: &[Box<dyn Side>]) -> String {
-    let first = sides[0].name();
-    let ratios: String = sides[1..].iter().map(|side| format!(" {} / {first} |", side.name())).collect();
-    let times: String = sides.iter().map(|side| format!(" {}, ns a call |", side.name())).collect();
-    let columns = 2 * sides.len() + 1;
-    format!("| task |{ratios}{times} calls |\n|{}", "---|".repeat(columns))
+impl Table {
+    fn header(&self) -> String {
+        let first = self.sides[0].name();
+        let ratios: String = self.sides[self.theirs..].iter().map(|side| format!(" {} / {first} |", side.name())).collect();
+        let times: String = self.sides.iter().map(|side| format!(" {}, ns |", side.name())).collect();
+        let columns = 2 + 2 * self.sides.len() - self.theirs;
+        format!("| call |{ratios}{times} calls |\n|{}", "---|".repeat(columns))
+    }
+
+    /// Ratios, then nanoseconds a call.
+    fn row(&self, name: &str, least: &[Least]) -> String {
+        let ratios: String = least[self.theirs..].iter().map(|side| format!(" {:.2} |", side.nanos / least[0].nanos)).collect();
+        let times: String = least.iter().map(|side| format!(" {:.1} |", side.nanos)).collect();
+        format!("| {name} |{ratios}{times} {} |", least[0].calls)
+    }
 }
 
 fn main() {
@@ -65,6 +75,7 @@ fn main() {
     if sides.is_empty() {
         println!("the Rust's text is absent ({}): nothing is timed against it", esp::WHY);
     }
+    let theirs = sides.len();
     let mine = ours::sides(RECORDS, LENGTH);
     if mine.is_empty() {
         println!("our library is not linked: only the Rust is timed");
@@ -73,10 +84,11 @@ fn main() {
     if sides.is_empty() {
         return;
     }
-    println!("{RECORDS} records over {LENGTH} bytes, up to {ROUNDS} rounds in turn, the least of each\n");
-    println!("{}", header(&sides));
+    let mut table = Table { sides, theirs };
+    println!("{RECORDS} records over {LENGTH} bytes; up to {ROUNDS} rounds, every side in turn in each, the least of each side's.\n");
+    println!("{}", table.header());
     for mut task in tasks::all() {
-        let least = rounds(&mut task, &mut sides);
-        println!("{}", row(&task.name, &least));
+        let least = rounds(&mut task, &mut table.sides);
+        println!("{}", table.row(&task.name, &least));
     }
 }

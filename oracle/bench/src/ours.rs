@@ -1,4 +1,4 @@
-//! Our library as a side of the timing driver: the in-place calls, on rings that live outside them.
+//! Our library as a side of the timing driver: the calls in place, on rings that live outside them.
 
 use ciramohir::{
     DescriptorList, DmaDescriptor, DmaRxStreamBuf, DmaRxStreamBufView, DmaTxStreamBuf, DmaTxStreamBufView, Head, LINKED, Owner,
@@ -15,7 +15,16 @@ struct InPlace {
 
 /// Empty until the static library is linked.
 pub fn sides(n: usize, len: usize) -> Vec<Box<dyn Side>> {
-    if LINKED { vec![Box::new(in_place(n, len))] } else { Vec::new() }
+    if !LINKED {
+        return Vec::new();
+    }
+    let side = in_place(n, len);
+    #[cfg(by_value)]
+    let more = vec![crate::by_value::side(side.full.clone(), buffer(len).to_vec())];
+    #[cfg(not(by_value))]
+    let more: Vec<Box<dyn Side>> = Vec::new();
+    let first: Box<dyn Side> = Box::new(side);
+    std::iter::once(first).chain(more).collect()
 }
 
 fn list(n: usize) -> &'static mut DescriptorList {
@@ -60,7 +69,7 @@ impl InPlace {
 
 impl Side for InPlace {
     fn name(&self) -> &'static str {
-        "ours, in place"
+        "in place"
     }
 
     fn fill(&mut self) {

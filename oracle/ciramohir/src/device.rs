@@ -8,10 +8,12 @@ use crate::{DmaBufError, DmaRxStreamBufView, DmaTxStreamBufView};
 pub struct Device(u64);
 
 impl Device {
+    /// It stands nowhere: every step is refused.
     pub const STOPPED: Device = Device(0);
 
+    /// On a record. 2^64 - 1 is not storable and is stored as 2^64 - 2, which is refused all the same.
     pub const fn on(record: usize) -> Device {
-        Device(record as u64 + 1)
+        Device((record as u64).saturating_add(1))
     }
 
     /// The record it stands on, if any.

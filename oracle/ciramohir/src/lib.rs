@@ -3,6 +3,7 @@
 //! Each call goes to the static library of the proved code, in place on lent words, and answers a refusal where
 //! the original would panic or go on. Until that library is linked every call answers `NotLinked`.
 #![no_std]
+#![warn(missing_docs)]
 
 mod burst;
 mod device;
@@ -24,7 +25,7 @@ pub use ring::Head;
 pub use rx_stream::{DmaRxStreamBuf, DmaRxStreamBufView};
 pub use tx_stream::{DmaTxStreamBuf, DmaTxStreamBufView};
 
-/// The bytes between two readings of a tally, round at 2^32.
+/// The bytes between two readings of a tally, round at 2^32: in plain Rust; the proved one is descriptors::ring::between.
 pub fn bytes_between(earlier: u32, later: u32) -> u32 {
     later.wrapping_sub(earlier)
 }

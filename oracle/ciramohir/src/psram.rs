@@ -2,34 +2,47 @@
 
 use crate::{DescriptorList, DmaBufError, error, library};
 
+/// The chips differ in the fewest bytes moved at an end of a range, and in the size of the bounce store.
 #[derive(Debug, PartialEq, Eq, Clone, Copy)]
 pub enum Chip {
+    /// Every other chip.
     Ordinary,
+    /// The ESP32-S2.
     S2,
 }
 
+/// The three parts of a range, in bytes.
 #[derive(Debug, PartialEq, Eq, Clone, Copy)]
 pub struct Cut {
+    /// Before the first aligned address: bounced.
     pub head: usize,
+    /// The aligned part: in place.
     pub middle: usize,
+    /// Behind the last aligned address: bounced.
     pub tail: usize,
 }
 
 /// The bytes that the list covers and the records that it uses.
 #[derive(Debug, PartialEq, Eq, Clone, Copy)]
 pub struct Covered {
+    /// The bytes of the range that its pieces hold.
     pub bytes: usize,
+    /// The records that it took.
     pub records: usize,
 }
 
 /// A piece lies in the bounce store or in the caller's range; `start` is counted from that one's start.
 #[derive(Debug, PartialEq, Eq, Clone, Copy)]
 pub struct Piece {
+    /// In the bounce store, else in the range.
     pub in_store: bool,
+    /// Where it starts.
     pub start: usize,
+    /// How many bytes it has.
     pub size: usize,
 }
 
+/// Cuts a range into head, middle and tail.
 pub fn head_middle_tail(address: u32, length: u32, chip: Chip) -> Result<Cut, DmaBufError> {
     let mut answer = [0u64; 3];
     // SAFETY: the answer is lent with its length.
@@ -38,6 +51,7 @@ pub fn head_middle_tail(address: u32, length: u32, chip: Chip) -> Result<Cut, Dm
     Ok(Cut { head, middle, tail })
 }
 
+/// Writes the list of pieces of a range over the descriptors: head and tail in the bounce store, the middle in place.
 pub fn build_descriptor_list_for_psram(
     descriptors: &mut DescriptorList,
     address: u32,

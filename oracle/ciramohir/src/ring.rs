@@ -5,10 +5,15 @@ use crate::DescriptorList;
 /// A ring's small numbers.
 #[derive(Debug, PartialEq, Eq, Clone, Copy, Default)]
 pub struct Head {
+    /// The ring's records.
     pub count: usize,
+    /// The cursor's record.
     pub descriptor_idx: usize,
+    /// The cursor's place in it.
     pub descriptor_offset: usize,
+    /// The bytes taken or accepted so far, round at 2^32.
     pub tally: u32,
+    /// The bytes pushed before `prepare`.
     pub pre_filled: usize,
 }
 

@@ -18,16 +18,35 @@ impl<'a> DmaRxStreamBuf<'a> {
         Ok(DmaRxStreamBuf { ring })
     }
 
+    /// Any state, sound or not.
+    pub fn from_parts(descriptors: &'a mut DescriptorList, buffer: &'a mut [u8], head: Head) -> Self {
+        DmaRxStreamBuf { ring: Ring::with_head(descriptors, buffer, head) }
+    }
+
+    /// The ring's small numbers.
+    pub fn head(&self) -> Head {
+        self.ring.head()
+    }
+
+    /// The descriptors.
+    pub fn descriptors(&self) -> &DescriptorList {
+        self.ring.list
+    }
+
     /// Links the descriptors in a line and gives all to the DMA.
     pub fn prepare(&mut self) -> Result<(), DmaBufError> {
         let length = self.ring.buffer.len();
         on_ring!(dma_rx_prepare, self.ring, length)
     }
 
+    /// The view of a transfer: the cursor is (0,0), as in the original.
     pub fn into_view(self) -> DmaRxStreamBufView<'a> {
-        DmaRxStreamBufView { ring: self.ring }
+        let mut ring = self.ring;
+        (ring.head[1], ring.head[2]) = (0, 0);
+        DmaRxStreamBufView { ring }
     }
 
+    /// The buffer again, once the transfer is over.
     pub fn from_view(view: DmaRxStreamBufView<'a>) -> Self {
         DmaRxStreamBuf { ring: view.ring }
     }
@@ -60,6 +79,7 @@ impl<'a> DmaRxStreamBufView<'a> {
         self.ring.head
     }
 
+    /// The ring's small numbers.
     pub fn head(&self) -> Head {
         self.ring.head()
     }

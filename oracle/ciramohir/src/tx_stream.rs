@@ -23,8 +23,14 @@ impl<'a> DmaTxStreamBuf<'a> {
         DmaTxStreamBuf { ring: Ring::with_head(descriptors, buffer, head) }
     }
 
+    /// The ring's small numbers.
     pub fn head(&self) -> Head {
         self.ring.head()
+    }
+
+    /// The descriptors.
+    pub fn descriptors(&self) -> &DescriptorList {
+        self.ring.list
     }
 
     /// Copies behind the bytes pushed so far. Answers the bytes accepted.
@@ -58,10 +64,12 @@ impl<'a> DmaTxStreamBuf<'a> {
         on_ring!(dma_tx_prepare, self.ring, length)
     }
 
+    /// The view of a transfer: it keeps the cursor, as in the original.
     pub fn into_view(self) -> DmaTxStreamBufView<'a> {
         DmaTxStreamBufView { ring: self.ring }
     }
 
+    /// The buffer again, once the transfer is over.
     pub fn from_view(view: DmaTxStreamBufView<'a>) -> Self {
         DmaTxStreamBuf { ring: view.ring }
     }
@@ -94,6 +102,7 @@ impl<'a> DmaTxStreamBufView<'a> {
         self.ring.head
     }
 
+    /// The ring's small numbers.
     pub fn head(&self) -> Head {
         self.ring.head()
     }

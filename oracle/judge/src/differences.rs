@@ -1,5 +1,6 @@
 //! What docs/DIFFERENCES.md says the Rust does where it parts from the rules: exactly that, and nothing else, is let
-//! through. Each has a name, is counted, and shows its smallest input.
+//! through. Each has a name, is counted, and shows its smallest input. What stands before a name's colon is the first
+//! cell of its row in the document (document.rs).
 
 use state::{Answer, Call, Direction, Owner, State};
 
@@ -14,6 +15,7 @@ pub const LIST: &[&str] = &[
     OVERRUN,
     ZERO,
     MANY,
+    MANY_ELSE,
     LATE,
     CUT_COMMIT,
     KEPT_COMMIT,
@@ -35,26 +37,27 @@ pub const LIST: &[&str] = &[
 pub const LAST_PEEK: &str = "peek on record n-1 with an offset: the first bytes again";
 pub const LAST_EOF: &str = "peek_until_eof on record n-1 with an offset: the first bytes again";
 pub const LAST_POP: &str = "pop on record n-1 with an offset: copies the first bytes again";
-pub const UNEVEN: &str = "refusal 3 (r >= chunk): the Rust accepts and leaves bytes unused";
+pub const UNEVEN: &str = "r >= chunk: the Rust accepts and leaves bytes unused";
 pub const OVERRUN: &str = "advance above available: the Rust runs on over DMA-owned records";
-pub const ZERO: &str = "refusal 2 (chunk 0): the Rust panics";
-pub const MANY: &str = "refusal 4 (n > 64): the Rust knows no such limit";
+pub const ZERO: &str = "chunk 0: the Rust panics";
+pub const MANY: &str = "n > 64: the Rust accepts";
+pub const MANY_ELSE: &str = "n > 64 with chunk 0 or a size above 4095: the Rust panics, or refuses with 1";
 pub const LATE: &str = "last size above 4095: the Rust refuses after writing the records";
 pub const CUT_COMMIT: &str = "commit above the offer: the Rust cuts it";
 pub const KEPT_COMMIT: &str = "commit above the offer before prepare: the Rust keeps it";
-pub const KEPT_PANIC: &str = "push after such a commit: the Rust panics";
-pub const UNPUSHED: &str = "D1 prepare with nothing ever pushed: the Rust sends the whole buffer";
-pub const KEPT_COUNT: &str = "D2 the count after prepare: the Rust keeps it";
-pub const TWICE: &str = "D2 prepare twice: the Rust's cursor is that of the count again";
-pub const AT_LENGTH: &str = "R12 refusal 5 (offset = length): the Rust goes on";
-pub const LONG: &str = "refusal 5 (a length above its size): the Rust counts it";
-pub const BEYOND: &str = "refusal 5 (cursor's record above n): the Rust panics";
-pub const ALIGNMENT: &str = "refusal 12 (an alignment that is none): the Rust divides by it";
-pub const TAIL: &str = "D3 a tail without a head: the Rust puts it in the first copy buffer";
-pub const OUT: &str = "D4 external alignment for Out: the Rust's own is 1";
-pub const MANY_PIECES: &str = "refusal 4 (more than 64 records for pieces): the Rust goes on";
-pub const NO_STORE: &str = "refusal 5 (bounce store too short): the Rust has its own";
-pub const PAST: &str = "refusal 9 (pieces of a range past 2^32): the Rust goes on";
+pub const KEPT_PANIC: &str = "push or offer after such a commit: the Rust panics";
+pub const UNPUSHED: &str = "prepare with nothing ever pushed: the Rust sends the whole buffer";
+pub const KEPT_COUNT: &str = "the count after prepare: the Rust keeps it";
+pub const TWICE: &str = "prepare twice: the Rust's cursor is that of the count again";
+pub const AT_LENGTH: &str = "offset equal to length on receive: the Rust goes on";
+pub const LONG: &str = "a length above its size on receive: the Rust counts it";
+pub const BEYOND: &str = "the cursor's record above n on receive: the Rust panics";
+pub const ALIGNMENT: &str = "an alignment that is none: the Rust divides by it";
+pub const TAIL: &str = "a tail without a head: the Rust puts it in the first copy buffer";
+pub const OUT: &str = "the external alignment for Out: the Rust's own is 1";
+pub const MANY_PIECES: &str = "more than 64 records for pieces: the Rust goes on";
+pub const NO_STORE: &str = "a bounce store too short: the Rust has its own";
+pub const PAST: &str = "pieces of a range past 2^32: the Rust goes on";
 
 pub enum Verdict {
     Same,
@@ -88,7 +91,9 @@ fn new(before: &State, answer: Answer, after: &mut State) -> Verdict {
         Answer::Refused(_) if n >= split::LEAST && len / n <= split::MOST => LATE,
         _ => return Verdict::Same,
     };
-    Verdict::Listed(name, rust_new(after))
+    let theirs = rust_new(after);
+    let name = if name == MANY && theirs != Answer::Done { MANY_ELSE } else { name };
+    Verdict::Listed(name, theirs)
 }
 
 /// The Rust's `new` for four records and more: the excess is what is left of the buffer in whole chunks, and goes to
@@ -197,7 +202,7 @@ fn kept_too_much(before: &State) -> Verdict {
 /// The unsound receive states of which the list says something.
 fn unsound(call: &Call, before: &State, after: &mut State) -> Verdict {
     if before.cursor >= before.n() {
-        let beyond = before.cursor > before.n() && matches!(call, Call::Available);
+        let beyond = before.cursor > before.n() && matches!(call, Call::Available) && only_beyond(before);
         return if beyond { Verdict::Listed(BEYOND, Answer::Panicked) } else { Verdict::NotAsked };
     }
     if at_length(before) {
@@ -218,6 +223,12 @@ fn at_length(before: &State) -> bool {
     let mut mended = before.clone();
     mended.offset = 0;
     at_length && sound::sound(&mended)
+}
+
+fn only_beyond(before: &State) -> bool {
+    let mut mended = before.clone();
+    (mended.cursor, mended.offset) = (0, 0);
+    sound::sound(&mended)
 }
 
 fn only_long(before: &State) -> bool {

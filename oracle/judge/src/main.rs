@@ -1,6 +1,7 @@
 //! The judge: holds our library against the Rust's own text and against document 01's rules.
 
 mod differences;
+mod document;
 mod faults;
 mod mutants;
 mod ours;
@@ -95,14 +96,18 @@ fn compare(options: &Options) -> ExitCode {
     println!("seed {}, records of the Rust: {:?}", options.seed, options.shape);
     let rng = Rng::new(options.seed);
     for (name, run) in RUNS {
-        let (start, before) = (Instant::now(), runner.comparisons());
+        let (start, before, claims) = (Instant::now(), runner.comparisons(), runner.claims);
         run(&mut runner, options.size, &rng);
-        println!("{name}: {} comparisons, {:.1} s", runner.comparisons() - before, start.elapsed().as_secs_f32());
+        let (compared, claimed, took) = (runner.comparisons() - before, runner.claims - claims, start.elapsed().as_secs_f32());
+        let counts =
+            [(compared, "comparisons"), (claimed, "claims")].map(|(n, what)| if n > 0 { format!("{n} {what}, ") } else { String::new() });
+        println!("{name}: {}{took:.1} s", counts.concat());
     }
     report::counts(&runner);
     let complete = runner.rust.is_none() || report::differences(&runner);
+    let documented = document::agrees(&runner);
     report::mismatch(&runner);
-    if runner.mismatches > 0 || !complete {
+    if runner.mismatches > 0 || !complete || !documented {
         return ExitCode::from(1);
     }
     println!("{}", if runner.comparisons() > 0 { "no mismatch" } else { "nothing was compared" });

@@ -21,6 +21,7 @@ impl Voice for Ours {
             Call::Piece(range, store, number) => piece(state.n(), range, *store, *number),
             Call::Pieces(range, store) => pieces(&mut list, range, *store),
             Call::New => new(&mut list, state),
+            Call::Prepare { .. } if state.direction == Direction::Receive => prepare(&mut list, state),
             _ if state.direction == Direction::Receive => receive(&mut list, state, call),
             Call::Prepare { .. } | Call::Prefill(_) | Call::OfferPrefill | Call::CommitPrefill(_) => before(&mut list, state, call),
             _ => transmit(&mut list, state, call),
@@ -94,7 +95,7 @@ fn place(part: &[u8], base: *const u8) -> (usize, usize) {
 
 fn new(list: &mut DescriptorList, state: &mut State) -> Asked {
     let made = match state.direction {
-        Direction::Receive => DmaRxStreamBuf::new(list, &mut state.buffer)?.into_view().head(),
+        Direction::Receive => DmaRxStreamBuf::new(list, &mut state.buffer)?.head(),
         Direction::Transmit => DmaTxStreamBuf::new(list, &mut state.buffer)?.head(),
     };
     keep(state, made);
@@ -109,18 +110,21 @@ fn device_of(state: &State) -> ciramohir::Device {
     }
 }
 
+fn prepare(list: &mut DescriptorList, state: &mut State) -> Asked {
+    let head = head(state);
+    let mut ring = DmaRxStreamBuf::from_parts(list, &mut state.buffer, head);
+    let answer = ring.prepare().map(|()| Answer::Done);
+    let head = ring.head();
+    keep(state, head);
+    answer
+}
+
 fn receive(list: &mut DescriptorList, state: &mut State, call: &Call) -> Asked {
     let head = head(state);
     let mut device = device_of(state);
     let base = state.buffer.as_ptr();
     let mut view = DmaRxStreamBufView::from_parts(list, &mut state.buffer, head);
     let answer = match call {
-        Call::Prepare { .. } => {
-            let mut ring = DmaRxStreamBuf::from_view(view);
-            let answer = ring.prepare().map(|()| Answer::Done);
-            view = ring.into_view();
-            answer
-        }
         Call::Available => view.available_bytes().map(Answer::Bytes),
         Call::Peek => view.peek().map(|part| place(part, base)).map(|(at, len)| Answer::part(at, len)),
         Call::PeekUntilEof => {

@@ -28,6 +28,8 @@ pub struct Runner {
     pub ours: Option<Box<dyn Voice>>,
     pub counts: [Count; NAMES.len()],
     pub listed: BTreeMap<&'static str, Seen>,
+    /// Statements that were tried.
+    pub claims: u64,
     pub mismatches: u64,
     pub worst: Option<(Measure, String)>,
     pub stop_at_first: bool,
@@ -50,6 +52,7 @@ impl Runner {
             ours,
             counts: [Count::default(); NAMES.len()],
             listed: BTreeMap::new(),
+            claims: 0,
             mismatches: 0,
             worst: None,
             stop_at_first: false,
@@ -141,6 +144,7 @@ impl Runner {
 
     /// A statement of the documents that the run itself tries.
     pub fn claim(&mut self, holds: bool, what: &str) {
+        self.claims += 1;
         if !holds {
             self.mismatches += 1;
             self.worst.get_or_insert((measure(&Call::Peek, &self.after), format!("does not hold: {what}")));

@@ -1,7 +1,8 @@
-//! Document 01's own numbers and the readings' examples, each asked of every voice; then the named checks that need
+//! Document 01's own numbers and the edges found by running the Rust, each asked of every voice; then the named checks that need
 //! more than one call.
 
-use state::{Answer, Call, Chip, Device, Direction, Range, State};
+use ciramohir::{DescriptorList, DmaBufError, DmaRxStreamBuf, DmaTxStreamBuf, LINKED};
+use state::{Answer, Call, Chip, Device, Direction, Owner, Range, State};
 
 use super::Size;
 use crate::differences::{OUT, TWICE};
@@ -17,8 +18,11 @@ pub fn run(runner: &mut Runner, _: Size, _: &Rng) {
         sent(runner, prefill, (cursor, offset), available);
     }
     split_rows(runner);
-    twice(runner);
+    twice(runner, 4, 1, (1, 0));
+    twice(runner, 14, 4, (1, 1));
+    sharper(runner);
     out(runner);
+    views(runner);
 }
 
 /// The row's answer, and the sizes it shows where there are any.
@@ -77,7 +81,7 @@ fn received(runner: &mut Runner) {
     must(runner, &mut d, Call::Peek, Answer::part(11, 3));
 }
 
-/// The readings' edges that agree with the Rust.
+/// Edges found by running the Rust that agree with it.
 fn edges(runner: &mut Runner) {
     let mut d = ring(Direction::Receive, 4, 14);
     d.records[1].length = 3;
@@ -132,14 +136,14 @@ fn split_rows(runner: &mut Runner) {
     must(runner, &mut none, Call::Pieces(range, 32), Answer::Pieces { covered: 0, used: 0, in_store: 0 });
 }
 
-/// D2: on D with 4 prefilled, a second prepare gives (0,0) by the rules and (1,1) in the Rust.
-fn twice(runner: &mut Runner) {
-    let mut d = ring(Direction::Transmit, 4, 14);
-    d.prefilled = 4;
-    let mut there = d.clone();
-    for cursor in [(1, 1), (0, 0)] {
-        must(runner, &mut d, Call::Prepare { pushed: true }, Answer::Done);
-        runner.claim((d.cursor, d.offset) == cursor, &format!("prepare gives cursor {cursor:?}"));
+/// A second prepare gives (0,0) by the rules, and in the Rust what the first one gave.
+fn twice(runner: &mut Runner, len: usize, prefilled: usize, first: (usize, usize)) {
+    let mut ring = ring(Direction::Transmit, 4, len);
+    ring.prefilled = prefilled;
+    let mut there = ring.clone();
+    for cursor in [first, (0, 0)] {
+        must(runner, &mut ring, Call::Prepare { pushed: true }, Answer::Done);
+        runner.claim((ring.cursor, ring.offset) == cursor, &format!("prepare gives cursor {cursor:?}"));
     }
     let Some(rust) = &mut runner.rust else { return };
     let mut cursors = Vec::new();
@@ -147,14 +151,27 @@ fn twice(runner: &mut Runner) {
         rust.call(&Call::Prepare { pushed: true }, &mut there);
         cursors.push((there.cursor, there.offset));
     }
-    let as_listed = cursors == [(1, 1), (1, 1)];
+    let as_listed = cursors == [first, first];
     runner.claim(as_listed, TWICE);
     if as_listed {
-        runner.note_as(TWICE, (4, 14, 4, 0, 0), || "tx 4 14; prefill 4 bytes; prepare; prepare: (0,0) here, (1,1) there".into());
+        let told = || format!("tx 4 {len}; prefilled {prefilled}; prepare; prepare: (0, 0) here, {first:?} there");
+        runner.note_as(TWICE, (4, len, prefilled, 0, 0), told);
     }
 }
 
-/// D4: In keeps its line of 16, Out is 1.
+/// Where the list says more of the Rust than its smallest input shows.
+fn sharper(runner: &mut Runner) {
+    let mut owned = ring(Direction::Transmit, 4, 4);
+    owned.records.iter_mut().for_each(|record| record.owner = Owner::Dma);
+    must(runner, &mut owned, Call::Advance(9), Answer::Refused(8));
+    must(runner, &mut State::blank(Direction::Receive, 65, 65 * 4096), Call::New, Answer::Refused(4));
+    let mut at_length = ring(Direction::Receive, 4, 8);
+    (at_length.records[0].length, at_length.records[1].length, at_length.offset) = (1, 2, 1);
+    at_length.lent = vec![0xEE; 2];
+    must(runner, &mut at_length, Call::Pop, Answer::Refused(5));
+}
+
+/// In keeps its line of 16, Out is 1.
 fn out(runner: &mut Runner) {
     let Some(out) = esp::external_alignment(Direction::Transmit) else { return };
     let as_listed = out == 1 && esp::external_alignment(Direction::Receive) == Some(16);
@@ -162,4 +179,35 @@ fn out(runner: &mut Runner) {
     if as_listed {
         runner.note_as(OUT, (0, 0, 0, 0, 0), || "min_psram_alignment: In 16, Out 1".into());
     }
+}
+
+/// From a view and back to one: the receive cursor is (0,0), the transmit cursor stays (ours alone).
+fn views(runner: &mut Runner) {
+    if LINKED {
+        runner.claim(receive_view() == Ok((0, 0)), "after a pop, from_view then into_view gives cursor (0,0)");
+        runner.claim(transmit_view() == Ok((1, 1)), "after 4 prefilled and prepare, into_view, from_view, into_view keep cursor (1,1)");
+    }
+}
+
+fn receive_view() -> Result<(usize, usize), DmaBufError> {
+    let (mut list, mut buffer) = (DescriptorList::new(4), [0; 14]);
+    let mut ring = DmaRxStreamBuf::new(&mut list, &mut buffer)?;
+    ring.prepare()?;
+    let mut view = ring.into_view();
+    ciramohir::Device::on(0).receive(&mut view, &[1, 2, 3], false)?;
+    view.pop(&mut [0; 2])?;
+    if (view.head().descriptor_idx, view.head().descriptor_offset) != (0, 2) {
+        return Err(DmaBufError::BadState);
+    }
+    let head = DmaRxStreamBuf::from_view(view).into_view().head();
+    Ok((head.descriptor_idx, head.descriptor_offset))
+}
+
+fn transmit_view() -> Result<(usize, usize), DmaBufError> {
+    let (mut list, mut buffer) = (DescriptorList::new(4), [0; 14]);
+    let mut ring = DmaTxStreamBuf::new(&mut list, &mut buffer)?;
+    ring.push(&[1, 2, 3, 4])?;
+    ring.prepare()?;
+    let head = DmaTxStreamBuf::from_view(ring.into_view()).into_view().head();
+    Ok((head.descriptor_idx, head.descriptor_offset))
 }

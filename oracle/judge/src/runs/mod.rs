@@ -33,6 +33,7 @@ pub type Run = fn(&mut Runner, Size, &Rng);
 
 pub const RUNS: &[(&str, Run)] = &[
     ("the documents' own examples", documents::run),
+    ("the inputs of docs/DIFFERENCES.md", crate::document::run),
     ("new and prepare", fresh::run),
     ("receive, small states exhaustively", receive::run),
     ("transmit, small states exhaustively", transmit::run),

@@ -33,10 +33,6 @@ pub fn run(runner: &mut Runner, _: Size, rng: &Rng) {
     ];
     for (name, spoil) in spoils {
         for direction in [Direction::Receive, Direction::Transmit] {
-            // A receive ring has no prefilled count.
-            if direction == Direction::Receive && name.contains("prefilled") {
-                continue;
-            }
             let (mut head, mut list) = words(direction, rng);
             spoil(&mut head, list.words_mut().1);
             let refused = asked(direction, head, &mut list).iter().all(|answer| *answer == Err(DmaBufError::BadState));

@@ -1,4 +1,4 @@
-//! Document 01's worked examples and the edges that the readings name.
+//! Document 01's worked examples and edges found by running the Rust.
 
 use state::{Call, Device, Direction, Owner, State};
 
@@ -12,7 +12,7 @@ pub fn write(script: &mut Script) {
     for prefill in 0..=14 {
         sent(script, prefill);
     }
-    script.comment("the readings' edges");
+    script.comment("edges found by running the Rust");
     empty_records(script);
     whole_ring(script);
     marks(script);

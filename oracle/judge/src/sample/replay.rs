@@ -10,7 +10,7 @@ use super::script::told;
 use crate::rules::Rules;
 
 /// The one list of records, and the ring over its first ones.
-struct Console {
+pub struct Console {
     list: Vec<Record>,
     ring: State,
     voice: Box<dyn Voice>,
@@ -23,7 +23,7 @@ pub fn run(file: &str) -> ExitCode {
         return ExitCode::SUCCESS;
     };
     let voice = crate::ours::voice().unwrap_or(Box::new(Rules));
-    let mut console = Console { list: vec![Record::EMPTY; 64], ring: State::blank(Direction::Receive, 0, 0), voice };
+    let mut console = Console::new(voice);
     let mut expected = output.lines();
     let mut answered = 0;
     for (number, line) in input.lines().enumerate().filter(|(_, line)| !line.starts_with('#') && !line.is_empty()) {
@@ -80,16 +80,17 @@ fn record(words: &[&str]) -> Record {
 }
 
 impl Console {
-    fn answer(&mut self, line: &str) -> String {
+    pub fn new(voice: Box<dyn Voice>) -> Console {
+        Console { list: vec![Record::EMPTY; 64], ring: State::blank(Direction::Receive, 0, 0), voice }
+    }
+
+    pub fn answer(&mut self, line: &str) -> String {
         let words: Vec<&str> = line.split(' ').collect();
-        let arguments = &words[1..];
         match words[0] {
-            "rx" | "tx" => self.new(words[0] == "rx", number(words[1]), number(words[2])),
             "show" => self.ring.lines().join("\n"),
-            "pieces" => self.pieces(number(words[1]), range(&words[2..]), number(words[5])),
             "between" => format!("between {}", (number(words[2]) as u32).wrapping_sub(number(words[1]) as u32)),
-            "record" | "cursor" | "tally" | "prefilled" | "device" | "bytes" => self.set(words[0], arguments),
-            _ => self.call(words[0], arguments),
+            "record" | "cursor" | "tally" | "prefilled" | "device" | "bytes" => self.set(words[0], &words[1..]),
+            _ => self.call(&words),
         }
     }
 
@@ -115,64 +116,73 @@ impl Console {
         "ok".into()
     }
 
-    fn new(&mut self, receive: bool, n: usize, len: usize) -> String {
-        let direction = if receive { Direction::Receive } else { Direction::Transmit };
-        let mut ring = State::blank(direction, n, len);
-        ring.records.iter_mut().zip(&self.list).for_each(|(record, lent)| *record = *lent);
-        let before = ring.clone();
-        let answer = self.voice.call(&Call::New, &mut ring);
-        if answer == Answer::Done {
-            self.ring = ring;
-            self.keep();
+    fn call(&mut self, words: &[&str]) -> String {
+        let data = data(words);
+        let (call, before) = self.asked(words, &data);
+        let mut after = before.clone();
+        let answer = self.voice.call(&call, &mut after);
+        let text = told(&call, &before, &after, answer);
+        after.lent.clear();
+        match call {
+            Call::New if answer == Answer::Done => self.ring = after,
+            Call::New => return text,
+            Call::Pieces(..) => {
+                self.keep(&after.records);
+                self.ring.records.iter_mut().zip(&self.list).for_each(|(record, kept)| *record = *kept);
+                return text;
+            }
+            _ => self.ring = after,
         }
-        told(&Call::New, &before, &self.ring, answer)
+        let records = self.ring.records.clone();
+        self.keep(&records);
+        text
     }
 
-    fn keep(&mut self) {
-        self.list.iter_mut().zip(&self.ring.records).for_each(|(kept, record)| *kept = *record);
+    fn keep(&mut self, records: &[Record]) {
+        self.list.iter_mut().zip(records).for_each(|(kept, record)| *kept = *record);
     }
 
-    fn pieces(&mut self, n: usize, range: Range, store: usize) -> String {
-        let mut list = State::blank(Direction::Receive, n, 0);
-        list.records.iter_mut().zip(&self.list).for_each(|(record, lent)| *record = *lent);
-        let before = list.clone();
-        let call = Call::Pieces(range, store);
-        let answer = self.voice.call(&call, &mut list);
-        self.list.iter_mut().zip(&list.records).for_each(|(kept, record)| *kept = *record);
-        self.ring.records.iter_mut().zip(&self.list).for_each(|(record, kept)| *record = *kept);
-        told(&call, &before, &list, answer)
+    fn over_list(&self, direction: Direction, n: usize, len: usize) -> State {
+        let mut state = State::blank(direction, n, len);
+        state.records.iter_mut().zip(&self.list).for_each(|(record, lent)| *record = *lent);
+        state
     }
 
-    fn call(&mut self, word: &str, arguments: &[&str]) -> String {
-        let first = arguments.first().copied().unwrap_or("");
-        let k = || number(first);
-        let data = if matches!(word, "prefill" | "push" | "fill") { bytes(first) } else { Vec::new() };
-        self.ring.lent = if matches!(word, "pop" | "send") { vec![0; k()] } else { Vec::new() };
-        let call = match word {
+    /// The call that a command makes, with its bytes, and the state that it is made on.
+    pub fn asked<'a>(&self, words: &[&str], data: &'a [u8]) -> (Call<'a>, State) {
+        let n = |i: usize| number(words[i]);
+        let mut ring = self.ring.clone();
+        if matches!(words[0], "pop" | "send") {
+            ring.lent = vec![0; n(1)];
+        }
+        let call = match words[0] {
+            "rx" => return (Call::New, self.over_list(Direction::Receive, n(1), n(2))),
+            "tx" => return (Call::New, self.over_list(Direction::Transmit, n(1), n(2))),
+            "pieces" => return (Call::Pieces(range(&words[2..]), n(5)), self.over_list(Direction::Receive, n(1), 0)),
             "prepare" => Call::Prepare { pushed: true },
             "available" => Call::Available,
             "peek" => Call::Peek,
             "peek_until_eof" => Call::PeekUntilEof,
-            "consume" => Call::Consume(k()),
+            "consume" => Call::Consume(n(1)),
             "pop" => Call::Pop,
-            "prefill" => Call::Prefill(&data),
+            "prefill" => Call::Prefill(data),
             "offer_prefill" => Call::OfferPrefill,
-            "commit_prefill" => Call::CommitPrefill(k()),
-            "push" => Call::Push(&data),
+            "commit_prefill" => Call::CommitPrefill(n(1)),
+            "push" => Call::Push(data),
             "offer" => Call::Offer,
-            "commit" => Call::Commit(k()),
-            "advance" => Call::Advance(k()),
-            "fill" => Call::Fill(&data, arguments.len() > 1),
+            "commit" => Call::Commit(n(1)),
+            "advance" => Call::Advance(n(1)),
+            "fill" => Call::Fill(data, words.len() > 2),
             "send" => Call::Send,
-            "align" => Call::Align(align(arguments)),
-            "cut" => Call::Cut(range(arguments)),
+            "align" => Call::Align(align(&words[1..])),
+            "cut" => Call::Cut(range(&words[1..])),
             other => panic!("no command: {other}"),
         };
-        let before = self.ring.clone();
-        let answer = self.voice.call(&call, &mut self.ring);
-        let text = told(&call, &before, &self.ring, answer);
-        self.ring.lent.clear();
-        self.keep();
-        text
+        (call, ring)
     }
+}
+
+/// The bytes that a command brings.
+pub fn data(words: &[&str]) -> Vec<u8> {
+    if matches!(words[0], "prefill" | "push" | "fill") { bytes(words[1]) } else { Vec::new() }
 }
