@@ -1,6 +1,6 @@
 -- "For every input, refusals too, a public call's contract determines its result, every record field, cursor, tally and buffer byte
 -- afterwards. Show that no two differing outcomes satisfy it". A contract that is one equation does by the first law alone, and those of
--- the crates `capi`, `by_value` and `lent`, which have an equation for each thing, by `by-equations` or `by-answer`. Of each other call
+-- the crates `capi`, `by_value` and `lent`, which have an equation for each thing, by `by-equations`. Of each other call
 -- the contract is named here, over all that the call answers or changes, and every input stands before it.
 use Prim.Native.Nat.{ℕ}
 use mathlib.Core.Path.{_≡_, refl, sym, _∙_}
@@ -62,10 +62,6 @@ by-equation-and z P x y e f = e .0 ∙ sym (f .0)
 -- `capi`, `by_value` and `lent` that is not one equation
 pub by-equations : {I : Type 0} {A : I → Type 0} (z : (i : I) → A i) → Determined (λ (x : (i : I) → A i). (i : I) → x i ≡ z i)
 by-equations z x y e f = λ j i. (e i ∙ sym (f i)) j
-
--- a thing may be read off the answer: the cursor of `consume_at` and `consume_with`
-pub by-answer : {A B : Type 0} (z : A) (g : A → B) → Determined (λ (x : A × B). (x .0 ≡ z) × (x .1 ≡ g (x .0)))
-by-answer z g x y e f = rw (e .1, f .1, e .0, f .0) refl
 
 -- of two things, and of three, as the contracts below have them
 pub by-two : {A B : Type 0} (z : A) (w : B) → Determined (λ (x : A × B). (x .0 ≡ z) × (x .1 ≡ w))
