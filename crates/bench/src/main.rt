@@ -1,4 +1,6 @@
 // The bench console: commands from standard input, or from the file that the first argument names, each answered with a line.
+#![tactic(auto)]
+
 mod word; // word.rt: the words of a line
 mod digit; // digit.rt: a digit's value and a value's digit
 mod number; // number.rt: a number as it is written

@@ -1,4 +1,6 @@
 // Whether a buffer may be handed to the device: the memory region that holds it, and its alignment there.
+#![tactic(auto)]
+
 ghost use Rattle.std.specs.Prelude.{◌≡◌, ◌<◌};
 ghost use Rattle.burst.specs.Burst.{is_good, holds, supported, alignment_at, aligned_of, compatible_of};
 

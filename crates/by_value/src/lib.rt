@@ -1,5 +1,7 @@
 // The calls by value, each behind one call from outside: the ring goes in and comes back by value, and a refusal has 0 bytes. To be timed
 // and measured (docs/BENCH.md); libcapi.a has the calls in place.
+#![tactic(auto)]
+
 ghost use Rattle.std.specs.Prelude.{◌≡◌, false, length};
 ghost use Rattle.rx_stream.specs.Receive.{peek_of, consume_of, pop_of, popped_over};
 ghost use Rattle.rx_stream.specs.Receive as receive;

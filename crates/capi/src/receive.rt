@@ -5,11 +5,10 @@ ghost use Rattle.descriptors.specs.Ring.{head_of, new_of};
 ghost use Rattle.rx_stream.specs.Receive.{prepare_of, available_of, consume_of, pop_of, popped_over};
 ghost use Rattle.capi.specs.Words.{head_now, lent_ring};
 ghost use Rattle.capi.specs.Answer.{has_room, said_number, said_in, done_number, counted_said, took_said};
-ghost use Rattle.capi.specs.Left.{left_by};
 ghost use Rattle.capi.specs.Parts.{peek_said, until_eof_said};
 ghost use Rattle.capi.specs.New.{new_number, new_head, new_starts, new_cells};
 
-use crate::{answer, flat, fresh, left, words};
+use crate::{answer, flat, fresh, words};
 use descriptors::record::TransferDirection;
 use rx_stream::in_place;
 
@@ -21,7 +20,10 @@ pub extern "C" fn dma_rx_new(
     count: usize,
     len: usize,
 ) -> u32
-    ensures { (result ≡ new_number head.old (new_of TransferDirection.In (records_of starts.old cells.old) count len)) × (head.new ≡ new_head head.old (new_of TransferDirection.In (records_of starts.old cells.old) count len)) × (starts.new ≡ new_starts head.old starts.old cells.old (new_of TransferDirection.In (records_of starts.old cells.old) count len)) × (cells.new ≡ new_cells head.old starts.old cells.old (new_of TransferDirection.In (records_of starts.old cells.old) count len)) }
+    ensures starts_after { starts.new ≡ new_starts head.old starts.old cells.old (new_of TransferDirection.In (records_of starts.old cells.old) count len) }
+    ensures cells_after { cells.new ≡ new_cells head.old starts.old cells.old (new_of TransferDirection.In (records_of starts.old cells.old) count len) }
+    ensures head_after { head.new ≡ new_head head.old (new_of TransferDirection.In (records_of starts.old cells.old) count len) }
+    ensures value { result ≡ new_number head.old (new_of TransferDirection.In (records_of starts.old cells.old) count len) }
 {
     fresh::new(TransferDirection::In, head, starts, cells, count, len)
 }
@@ -34,11 +36,16 @@ pub extern "C" fn dma_rx_prepare(
     cells: &mut [u16],
     len: usize,
 ) -> u32
-    ensures { (result ≡ done_number (prepare_of (lent_ring true head.old starts.now cells.old) len).answer) × (head.new ≡ head_now true head.old (head_of (prepare_of (lent_ring true head.old starts.now cells.old) len).ring)) × (cells.new ≡ cells_now starts.now cells.old (prepare_of (lent_ring true head.old starts.now cells.old) len).ring.descriptors) }
+    ensures cells_after { cells.new ≡ cells_now starts.now cells.old (prepare_of (lent_ring true head.old starts.now cells.old) len).ring.descriptors }
+    ensures head_after { head.new ≡ head_now true head.old (head_of (prepare_of (lent_ring true head.old starts.now cells.old) len).ring) }
+    ensures value { result ≡ done_number (prepare_of (lent_ring true head.old starts.now cells.old) len).answer }
 {
     let h = words::head_of(head, true);
     let m = in_place::prepare_in(starts, cells, h, len);
-    left::prepared(head, m)
+    let after = m.head;
+    let outcome = m.answer;
+    words::put_head(head, true, after);
+    answer::done(outcome)
 }
 
 // answer: the bytes that are available to read.
@@ -50,9 +57,11 @@ pub extern "C" fn dma_rx_available_bytes<'a>(
     len: usize,
     answer: &mut [u64],
 ) -> u32
-    ensures { (result ≡ said_number (counted_said (available_of (lent_ring (has_room answer.old) head.now starts.now cells.now) len))) × (answer.new ≡ said_in answer.old (counted_said (available_of (lent_ring (has_room answer.old) head.now starts.now cells.now) len))) }
+    ensures value { result ≡ said_number (counted_said (available_of (lent_ring (has_room answer.old) head.now starts.now cells.now) len)) }
+    ensures answer_after { answer.new ≡ said_in answer.old (counted_said (available_of (lent_ring (has_room answer.old) head.now starts.now cells.now) len)) }
 {
-    let h = words::lent_head(head, answer);
+    let ready = answer::has_room(answer);
+    let h = words::head_of(head, ready);
     let outcome = in_place::available_in(starts, cells, h, len);
     answer::put(answer, answer::counted(outcome))
 }
@@ -66,9 +75,11 @@ pub extern "C" fn dma_rx_peek<'a>(
     len: usize,
     answer: &mut [u64],
 ) -> u32
-    ensures { (result ≡ said_number (peek_said false (lent_ring (has_room answer.old) head.now starts.now cells.now) len)) × (answer.new ≡ said_in answer.old (peek_said false (lent_ring (has_room answer.old) head.now starts.now cells.now) len)) }
+    ensures value { result ≡ said_number (peek_said false (lent_ring (has_room answer.old) head.now starts.now cells.now) len) }
+    ensures answer_after { answer.new ≡ said_in answer.old (peek_said false (lent_ring (has_room answer.old) head.now starts.now cells.now) len) }
 {
-    let h = words::lent_head(head, answer);
+    let ready = answer::has_room(answer);
+    let h = words::head_of(head, ready);
     let said = flat::peeked(starts, cells, h, false, len);
     answer::put(answer, said)
 }
@@ -82,9 +93,11 @@ pub extern "C" fn dma_rx_peek_until_eof<'a>(
     len: usize,
     answer: &mut [u64],
 ) -> u32
-    ensures { (result ≡ said_number (until_eof_said (lent_ring (has_room answer.old) head.now starts.now cells.now) len)) × (answer.new ≡ said_in answer.old (until_eof_said (lent_ring (has_room answer.old) head.now starts.now cells.now) len)) }
+    ensures value { result ≡ said_number (until_eof_said (lent_ring (has_room answer.old) head.now starts.now cells.now) len) }
+    ensures answer_after { answer.new ≡ said_in answer.old (until_eof_said (lent_ring (has_room answer.old) head.now starts.now cells.now) len) }
 {
-    let h = words::lent_head(head, answer);
+    let ready = answer::has_room(answer);
+    let h = words::head_of(head, ready);
     let said = flat::until_eof(starts, cells, h, len);
     answer::put(answer, said)
 }
@@ -99,11 +112,18 @@ pub extern "C" fn dma_rx_consume(
     k: usize,
     answer: &mut [u64],
 ) -> u32
-    ensures { (result ≡ (left_by took_said (λ x. consume_of x len k) answer.old head.old starts.now cells.old).number) × (answer.new ≡ (left_by took_said (λ x. consume_of x len k) answer.old head.old starts.now cells.old).answer) × (head.new ≡ (left_by took_said (λ x. consume_of x len k) answer.old head.old starts.now cells.old).head) × (cells.new ≡ (left_by took_said (λ x. consume_of x len k) answer.old head.old starts.now cells.old).cells) }
+    ensures cells_after { cells.new ≡ cells_now starts.now cells.old (consume_of (lent_ring (has_room answer.old) head.old starts.now cells.old) len k).ring.descriptors }
+    ensures head_after { head.new ≡ head_now (has_room answer.old) head.old (head_of (consume_of (lent_ring (has_room answer.old) head.old starts.now cells.old) len k).ring) }
+    ensures value { result ≡ said_number (took_said (consume_of (lent_ring (has_room answer.old) head.old starts.now cells.old) len k).answer) }
+    ensures answer_after { answer.new ≡ said_in answer.old (took_said (consume_of (lent_ring (has_room answer.old) head.old starts.now cells.old) len k).answer) }
 {
-    let h = words::lent_head(head, answer);
+    let ready = answer::has_room(answer);
+    let h = words::head_of(head, ready);
     let m = in_place::consume_in(starts, cells, h, len, k);
-    left::leave(head, answer, m.head, answer::took(m.answer))
+    let after = m.head;
+    let outcome = m.answer;
+    words::put_head(head, ready, after);
+    answer::put(answer, answer::took(outcome))
 }
 
 // answer: the bytes taken.
@@ -117,9 +137,16 @@ pub extern "C" fn dma_rx_pop(
     answer: &mut [u64],
 ) -> u32
     ensures destination_after { destination.new ≡ popped_over (lent_ring (has_room answer.old) head.old starts.now cells.old) buffer.now destination.old }
-    ensures value { (result ≡ (left_by counted_said (λ x. pop_of x (length buffer.now) (length destination.old)) answer.old head.old starts.now cells.old).number) × (answer.new ≡ (left_by counted_said (λ x. pop_of x (length buffer.now) (length destination.old)) answer.old head.old starts.now cells.old).answer) × (head.new ≡ (left_by counted_said (λ x. pop_of x (length buffer.now) (length destination.old)) answer.old head.old starts.now cells.old).head) × (cells.new ≡ (left_by counted_said (λ x. pop_of x (length buffer.now) (length destination.old)) answer.old head.old starts.now cells.old).cells) }
+    ensures cells_after { cells.new ≡ cells_now starts.now cells.old (pop_of (lent_ring (has_room answer.old) head.old starts.now cells.old) (length buffer.now) (length destination.old)).ring.descriptors }
+    ensures head_after { head.new ≡ head_now (has_room answer.old) head.old (head_of (pop_of (lent_ring (has_room answer.old) head.old starts.now cells.old) (length buffer.now) (length destination.old)).ring) }
+    ensures value { result ≡ said_number (counted_said (pop_of (lent_ring (has_room answer.old) head.old starts.now cells.old) (length buffer.now) (length destination.old)).answer) }
+    ensures answer_after { answer.new ≡ said_in answer.old (counted_said (pop_of (lent_ring (has_room answer.old) head.old starts.now cells.old) (length buffer.now) (length destination.old)).answer) }
 {
-    let h = words::lent_head(head, answer);
+    let ready = answer::has_room(answer);
+    let h = words::head_of(head, ready);
     let m = in_place::pop_in(starts, cells, h, buffer, destination);
-    left::leave(head, answer, m.head, answer::counted(m.answer))
+    let after = m.head;
+    let outcome = m.answer;
+    words::put_head(head, ready, after);
+    answer::put(answer, answer::counted(outcome))
 }

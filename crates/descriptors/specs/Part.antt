@@ -3,4 +3,4 @@ use Rattle.std.specs.Prelude.{ℕ, ◌+◌, List}
 use Rattle.std.specs.Borrow.{Bor}
 
 abbrev pub part_from : Bor (List ℕ) → ℕ → ℕ × ℕ
-part_from slice p = (slice.ptr.0, p + slice.ptr.1)
+part_from slice p = (slice.ref_ptr.0, p + slice.ref_ptr.1)

@@ -9,20 +9,20 @@ pub const MOST: usize = 4095;
 // One past the last address.
 pub const TOP: usize = 4294967296;
 
-#[derive(Drop)]
+#[derive(Clone, Copy)]
 pub enum Owner {
     Cpu,
     Dma,
 }
 
 // A record's number, or none.
-#[derive(Drop)]
+#[derive(Clone, Copy)]
 pub enum Next {
     Nothing,
     At(u16),
 }
 
-#[derive(Drop)]
+#[derive(Clone, Copy)]
 pub struct DmaDescriptor {
     pub buffer: u32,
     pub size: u16,
@@ -33,7 +33,7 @@ pub struct DmaDescriptor {
 }
 
 // The direction of the DMA transfer: In is receive, Out is transmit.
-#[derive(Drop)]
+#[derive(Clone, Copy)]
 pub enum TransferDirection {
     In,
     Out,

@@ -2,13 +2,13 @@
 ghost use Rattle.std.specs.Prelude.{◌≡◌};
 ghost use Rattle.descriptors.specs.Refusal.{number_of};
 
-#[derive(Drop)]
+#[derive(Clone, Copy)]
 pub enum DmaAlignmentError {
     Address,
     Size,
 }
 
-#[derive(Drop)]
+#[derive(Clone, Copy)]
 pub enum DmaBufError {
     InsufficientDescriptors,
     InvalidChunkSize,
@@ -46,13 +46,13 @@ pub fn number(refusal: DmaBufError) -> u8
 }
 
 // The answers of calls that give a number of bytes, or nothing but success.
-#[derive(Drop)]
+#[derive(Clone, Copy)]
 pub enum Counted {
     Bytes(usize),
     Refused(DmaBufError),
 }
 
-#[derive(Drop)]
+#[derive(Clone, Copy)]
 pub enum Done {
     Ready,
     Refused(DmaBufError),

@@ -12,7 +12,7 @@ use crate::refusal::{DmaBufError, Done};
 use crate::split::Split;
 use crate::{cells, split, walk};
 
-#[derive(Drop)]
+#[derive(Clone, Copy)]
 pub struct Head {
     pub count: usize,
     pub descriptor_idx: usize,
@@ -22,7 +22,7 @@ pub struct Head {
 }
 
 // What a call in place answers, with the head that it leaves.
-#[derive(Drop)]
+#[derive(Clone, Copy)]
 pub struct Headed {
     pub head: Head,
     pub answer: Done,

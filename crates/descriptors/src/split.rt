@@ -8,7 +8,7 @@ use crate::refusal::DmaBufError;
 // The fewest records that a ring has.
 pub const LEAST: usize = 4;
 
-#[derive(Drop)]
+#[derive(Clone, Copy)]
 pub enum Split {
     Parts { chunk: usize, rest: usize },
     Refused(DmaBufError),

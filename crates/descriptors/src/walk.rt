@@ -9,7 +9,7 @@ use crate::record::{LIMIT, Next, Owner, TransferDirection};
 use crate::{cells, place};
 
 // Where a walk stands: the place, the bytes still to go and the records used up.
-#[derive(Drop)]
+#[derive(Clone, Copy)]
 pub struct Moved {
     pub at: usize,
     pub offset: usize,

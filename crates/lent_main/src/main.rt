@@ -1,5 +1,7 @@
 // The two lent forms, run beside the by-value ones on document 01's examples and on refusals: a line for each, that says what was
 // answered and whether both answered and left the same.
+#![tactic(auto)]
+
 use libc::STDOUT_FILENO;
 
 mod same; // same.rt: whether two answers, lists of words, heads are the same

@@ -1,5 +1,7 @@
 // A range of external memory as a list of pieces: the bytes before the first whole line and those after the last one go by the
 // bounce store, the lines between them directly.
+#![tactic(auto)]
+
 pub mod chip; // chip.rt: what the chips differ in, and what they share
 pub mod plan; // plan.rt: what a range is cut into
 pub mod cut; // cut.rt: head, middle and tail of a range

@@ -1,5 +1,7 @@
 // The stream receive ring: the device fills records, the firmware takes their bytes in order and gives the records back. The work
 // is done in place, on lent words; document 01's calls, ring in and ring out, stand above it.
+#![tactic(auto)]
+
 use descriptors::refusal::DmaBufError;
 
 pub mod piece; // piece.rt: what lies in one piece from a record on

@@ -1,4 +1,6 @@
 // Document 01's twelve rows, run: what the code answers to each, and whether that is what the row says.
+#![tactic(auto)]
+
 ghost use Rattle.std.specs.Prelude.{◌≡◌, ◌<◌, get_or};
 ghost use Rattle.descriptors.specs.Split.{split_of};
 ghost use Rattle.psram.specs.Cut.{cut_of};

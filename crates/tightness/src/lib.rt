@@ -1,1 +1,3 @@
 // What ties every public call down: specs only.
+#![tactic(auto)]
+

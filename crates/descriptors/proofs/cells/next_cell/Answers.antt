@@ -1,0 +1,9 @@
+use Rattle.std.proofs.Common.{sym, ap, ◌∙◌, arith, rules, ltb-true}
+use Rattle.descriptors.specs.Cells.{numbered, next_cell}
+use Rattle.descriptors.proofs.cells.next_cell.Goals as goal
+
+pub overflow_add-result : goal.overflow_add-result
+overflow_add-result c = omega (arith, ltb-true c.before.next-1.given.0.0 65535 (sym (ap numbered c.before.next-1.given.1) ∙ c.before.before.before.requires))
+
+pub returns-in-At : goal.returns-in-At
+returns-in-At c = ap next_cell (sym c.before.next-1.given.1)

@@ -1,0 +1,13 @@
+use Rattle.descriptors.specs.laws.Updates.{up_none, up_more}
+use Rattle.descriptors.specs.Stores.{lay_cells}
+use Rattle.descriptors.specs.Split.{size_of}
+use Rattle.descriptors.specs.Record.{up_to}
+use Rattle.std.proofs.Common.{◌≡◌, ◌-◌, ◌≤◌, length, sym, refl, ◌∙◌, arith, rules}
+use Rattle.descriptors.proofs.ring.lay_sizes.Given as goal
+
+abbrev pub invariant-loop-i : goal.invariant-loop-i
+invariant-loop-i l =
+    (l.i ≤ l.len) × (length l.w ≡ length l.dir) × (l.w ≡ up_to (lay_cells l.n l.len l.chunk) l.i l.dir)
+
+abbrev pub decreases-loop-i : goal.decreases-loop-i
+decreases-loop-i l = l.len - l.i

@@ -1,0 +1,34 @@
+use Rattle.descriptors.specs.laws.Splits.{next_start, start_small}
+use Rattle.descriptors.specs.laws.Updates.{up_none, up_more}
+use Rattle.descriptors.specs.Stores.{lay_start}
+use Rattle.descriptors.specs.Split.{start_of}
+use Rattle.descriptors.specs.Record.{up_to}
+use Rattle.std.proofs.Common.{◌≡◌, ◌-◌, ◌*◌, ◌≤◌, length, sym, refl, ◌∙◌, arith, rules}
+use Rattle.descriptors.proofs.ring.lay_starts.Goals as goal
+
+pub loop-i-init : goal.loop-i-init
+loop-i-init c = (search rules, search rules, refl, sym (up_none (lay_start c.before.args.n c.before.args.len) c.before.args.s-1.now))
+
+pub overflow_add-start : goal.overflow_add-start
+overflow_add-start c =
+    let s = c.before.before.before.before.before in
+    let a = s.before.before.args in
+    omega (arith, start_small s.loop-i.i a.n a.chunk (omega arith) (omega arith) (omega arith))
+
+pub loop-i-preserved : goal.loop-i-preserved
+unfolding lay_start start_of
+loop-i-preserved c =
+    let s = c.before.before.before.before.before in
+    let a = s.before.before.args in (
+      omega arith,
+      omega (arith, next_start s.loop-i.i a.chunk),
+      search rules,
+      c.before.before.set_buffer.ensures ∙ rw (s.loop-i.invariant.1, s.before.before.requires.2, s.loop-i.invariant.3) (sym (up_more (lay_start a.n a.len) s.loop-i.i a.s-1.now)),
+    )
+
+pub returns : goal.returns
+returns c =
+    let s = c.before in
+    let a = s.before.before.args in
+    let z : s.loop-i.i ≡ a.n = omega arith in
+    rw z at s.loop-i.invariant.3

@@ -1,0 +1,14 @@
+use Rattle.descriptors.specs.laws.Splits.{next_start, start_small}
+use Rattle.descriptors.specs.laws.Updates.{up_none, up_more}
+use Rattle.descriptors.specs.Stores.{lay_start}
+use Rattle.descriptors.specs.Split.{start_of}
+use Rattle.descriptors.specs.Record.{up_to}
+use Rattle.std.proofs.Common.{◌≡◌, ◌-◌, ◌*◌, ◌≤◌, length, sym, refl, ◌∙◌, arith, rules}
+use Rattle.descriptors.proofs.ring.lay_starts.Given as goal
+
+abbrev pub invariant-loop-i : goal.invariant-loop-i
+invariant-loop-i l =
+    (l.i ≤ l.len) × (l.start ≡ l.i * l.step) × (length l.s ≡ length l.n) × (l.s ≡ up_to (lay_start l.len l.chunk) l.i l.n)
+
+abbrev pub decreases-loop-i : goal.decreases-loop-i
+decreases-loop-i l = l.len - l.i

@@ -1,0 +1,13 @@
+use Rattle.descriptors.specs.laws.Tests.{flag_cleared, flag-kept}
+use Rattle.descriptors.specs.Cells.{all_below}
+use Rattle.descriptors.specs.Record.{limit}
+use Rattle.std.proofs.Common.{◌≡◌, ℕ, ◌+◌, ◌-◌, ◌*◌, ◌≤◌, Bool, leb, get_or, ◌∙◌, ⊎_elim, arith, rules, le-leb}
+use borrow.Author.Tests.{lt-leb}
+use Rattle.descriptors.proofs.ring.marks_ok.Given as goal
+
+abbrev pub invariant-loop-j : goal.invariant-loop-j
+invariant-loop-j l =
+    (l.j ≤ 2 * limit) × (l.ok ≡ all_below (λ l.j. leb (get_or l.w (limit * 3 + l.j) 0) 1) l.j)
+
+abbrev pub decreases-loop-j : goal.decreases-loop-j
+decreases-loop-j l = 2 * limit - l.j

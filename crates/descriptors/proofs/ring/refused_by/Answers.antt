@@ -1,0 +1,6 @@
+use Rattle.descriptors.specs.Ring.{split_done}
+use Rattle.std.proofs.Common.{sym, ap, rules}
+use Rattle.descriptors.proofs.ring.refused_by.Goals as goal
+
+pub returns-in-Refused : goal.returns-in-Refused
+returns-in-Refused c = ap split_done (sym c.before.parts-1.given.1)

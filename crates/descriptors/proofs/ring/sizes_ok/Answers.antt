@@ -1,0 +1,48 @@
+use Rattle.descriptors.specs.laws.Tests.{and_right, and-never}
+use Rattle.descriptors.specs.laws.Tests.{flag_cleared, flag-kept}
+use Rattle.descriptors.specs.Cells.{all_below}
+use Rattle.std.proofs.Common.{◌≡◌, ℕ, ◌+◌, ◌-◌, ◌<◌, ◌≤◌, Bool, true, false, cond, eqb, get_or, sym, refl, ap, ◌∙◌, ⊎_elim, arith, rules, eq-eqb, ne_eqb, eqb-true}
+use Rattle.descriptors.proofs.ring.sizes_ok.Goals as goal
+
+-- the end of the scan is no record's past the last
+end-near : (b : Bool) (n : ℕ) → cond b n (n - 1) ≤ n
+end-near true n = omega arith
+end-near false n = omega arith
+
+-- a scan over all records says what one over all but the last says, where the last one passes too
+but_last : (p : ℕ → Bool) (n : ℕ) (b : Bool) → 0 < n → (b ≡ true → p (n - 1) ≡ true) → all_below p (cond b n (n - 1)) ≡ all_below p (n - 1)
+but_last p n false h g = refl
+but_last p n true h g =
+    let e : n - 1 + 1 ≡ n = omega arith in
+    sym (flag-kept p (n - 1) (all_below p (n - 1)) refl (g refl) ∙ ap (all_below p) e)
+
+pub loop-i-init : goal.loop-i-init
+loop-i-init c =
+    let a = c.before.before.args in
+    (omega arith, rw c.scan_end-end.ensures (end-near (eqb a.last a.chunk) a.n), c.scan_end-end.ensures, refl)
+
+pub loop-i-preserved : goal.loop-i-preserved
+loop-i-preserved c =
+    let s = c.before.before.before in
+    let a = s.before.before.before.args in
+    let p : ℕ → Bool = λ j. eqb (get_or a.w.now j 0) a.chunk in (
+      omega arith,
+      s.loop-i.invariant.1,
+      s.loop-i.invariant.2,
+      ⊎_elim (λ w. w.1 ∙ flag_cleared p s.loop-i.i (ne_eqb _ _ w.0.taken))
+          (λ w. w.1 ∙ flag-kept p s.loop-i.i s.loop-i.ok s.loop-i.invariant.3 (eq-eqb _ _ w.0.left)) c.if-w-i.branch,
+    )
+
+pub returns-then-w-n : goal.returns-then-w-n
+returns-then-w-n c =
+    let a = c.before.before.before.before.before.before.args in
+    rw (ne_eqb _ _ c.if-w-n.true) (sym (and-never (all_below (λ j. eqb (get_or a.w.now j 0) a.chunk) (a.n - 1))))
+
+pub returns : goal.returns
+returns c =
+    let s = c.before.before.before in
+    let a = s.before.before.before.args in
+    let p : ℕ → Bool = λ j. eqb (get_or a.w.now j 0) a.chunk in
+    let last : get_or a.w.now (a.n - 1) 0 ≡ a.last = c.if-w-n.false in
+    let z : s.loop-i.i ≡ cond (eqb a.last a.chunk) a.n (a.n - 1) = (let e : s.loop-i.i ≡ _ = omega arith in e) ∙ s.loop-i.invariant.2 in
+    rw (eq-eqb _ _ last) (s.loop-i.invariant.3 ∙ ap (all_below p) z ∙ but_last p a.n (eqb a.last a.chunk) (omega arith) (λ e. eq-eqb _ _ (last ∙ eqb-true _ _ e)) ∙ sym (and_right (all_below p (a.n - 1))))

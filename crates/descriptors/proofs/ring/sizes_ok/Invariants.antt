@@ -1,0 +1,12 @@
+use Rattle.descriptors.specs.laws.Tests.{and_right, and-never}
+use Rattle.descriptors.specs.laws.Tests.{flag_cleared, flag-kept}
+use Rattle.descriptors.specs.Cells.{all_below}
+use Rattle.std.proofs.Common.{◌≡◌, ℕ, ◌+◌, ◌-◌, ◌<◌, ◌≤◌, Bool, true, false, cond, eqb, get_or, sym, refl, ap, ◌∙◌, ⊎_elim, arith, rules, eq-eqb, ne_eqb, eqb-true}
+use Rattle.descriptors.proofs.ring.sizes_ok.Given as goal
+
+abbrev pub invariant-loop-i : goal.invariant-loop-i
+invariant-loop-i l =
+    (l.i ≤ l.end) × (l.end ≤ l.n) × (l.end ≡ cond (eqb l.last l.chunk) l.n (l.n - 1)) × (l.ok ≡ all_below (λ j. eqb (get_or l.w j 0) l.chunk) l.i)
+
+abbrev pub decreases-loop-i : goal.decreases-loop-i
+decreases-loop-i l = l.end - l.i

@@ -1,0 +1,14 @@
+use Rattle.descriptors.specs.laws.Splits.{next_start, start_small}
+use Rattle.descriptors.specs.laws.Tests.{flag_cleared, flag-kept, and-stop, all-at}
+use Rattle.descriptors.specs.Cells.{all_below}
+use Rattle.descriptors.specs.Record.{limit}
+use Rattle.std.proofs.Common.{◌≡◌, ℕ, ◌+◌, ◌-◌, ◌*◌, ◌%◌, ◌^◌, ◌<◌, ◌≤◌, Bool, true, false, eqb, get_or, sym, refl, ◌∙◌, ⊎_elim, add-one, arith, rules, eq-eqb, ne_eqb, eqb-true}
+use Rattle.descriptors.proofs.ring.starts_ok.Given as goal
+
+-- While the flag is up, the start is the one that is due; afterwards it may be anything.
+abbrev pub invariant-loop-i : goal.invariant-loop-i
+invariant-loop-i l =
+    (l.i ≤ l.n) × (l.ok ≡ all_below (λ j. eqb (get_or l.s j 0) (j * l.chunk)) l.i) × (l.ok ≡ true → l.start ≡ l.i * l.chunk)
+
+abbrev pub decreases-loop-i : goal.decreases-loop-i
+decreases-loop-i l = l.n - l.i

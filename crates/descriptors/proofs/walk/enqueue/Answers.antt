@@ -1,0 +1,7 @@
+use Rattle.descriptors.specs.Stores.{hand_cells}
+use Rattle.std.proofs.Common.{rules}
+use Rattle.descriptors.proofs.walk.enqueue.Goals as goal
+
+pub returns : goal.returns
+unfolding hand_cells
+returns c = cc

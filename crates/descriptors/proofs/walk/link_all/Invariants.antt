@@ -1,0 +1,13 @@
+use Rattle.std.proofs.Common.{◌≡◌, ◌-◌, ◌≤◌, length, sym, refl, ap, ◌∙◌, arith, rules, le-leb}
+use borrow.Author.Tests.{lt-leb}
+use Rattle.descriptors.specs.laws.Updates.{up_none, up_more}
+use Rattle.descriptors.specs.Stores.{link_cells, link_all}
+use Rattle.descriptors.specs.Record.{up_to}
+use Rattle.descriptors.proofs.walk.link_all.Given as goal
+
+abbrev pub invariant-loop-i : goal.invariant-loop-i
+invariant-loop-i l =
+    (l.i ≤ l.initial.w) × (length l.w ≡ length l.dir) × (l.w ≡ up_to (link_cells l.n l.initial.w) l.i l.dir)
+
+abbrev pub decreases-loop-i : goal.decreases-loop-i
+decreases-loop-i l = l.initial.w - l.i
