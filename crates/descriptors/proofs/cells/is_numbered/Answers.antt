@@ -3,4 +3,4 @@ use Rattle.std.proofs.Common.{sym, ap, rules}
 use Rattle.descriptors.proofs.cells.is_numbered.Goals as goal
 
 pub returns-in-At : goal.returns-in-At
-returns-in-At c = ap numbered (sym c.before.next-1.given.1)
+returns-in-At c = ap numbered (sym c.in-At.is)

@@ -7,7 +7,7 @@ use Rattle.descriptors.proofs.ring.lay_sizes.Given as goal
 
 abbrev pub invariant-loop-i : goal.invariant-loop-i
 invariant-loop-i l =
-    (l.i ≤ l.len) × (length l.w ≡ length l.dir) × (l.w ≡ up_to (lay_cells l.n l.len l.chunk) l.i l.dir)
+    (l.i ≤ l.n) × (length l.w ≡ length l.initial.w) × (l.w ≡ up_to (lay_cells l.dir l.n l.len) l.i l.initial.w)
 
 abbrev pub decreases-loop-i : goal.decreases-loop-i
-decreases-loop-i l = l.len - l.i
+decreases-loop-i l = l.n - l.i

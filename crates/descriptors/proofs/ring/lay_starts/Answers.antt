@@ -7,28 +7,25 @@ use Rattle.std.proofs.Common.{◌≡◌, ◌-◌, ◌*◌, ◌≤◌, length, sy
 use Rattle.descriptors.proofs.ring.lay_starts.Goals as goal
 
 pub loop-i-init : goal.loop-i-init
-loop-i-init c = (search rules, search rules, refl, sym (up_none (lay_start c.before.args.n c.before.args.len) c.before.args.s-1.now))
+loop-i-init c = (search rules, search rules, refl, sym (up_none (lay_start c.args.n c.args.len) c.args.s.now))
 
 pub overflow_add-start : goal.overflow_add-start
 overflow_add-start c =
-    let s = c.before.before.before.before.before in
-    let a = s.before.before.args in
-    omega (arith, start_small s.loop-i.i a.n a.chunk (omega arith) (omega arith) (omega arith))
+    let a = c.args in
+    omega (arith, start_small c.loop-i.i a.n a.chunk (omega arith) (omega arith) (omega arith))
 
 pub loop-i-preserved : goal.loop-i-preserved
 unfolding lay_start start_of
 loop-i-preserved c =
-    let s = c.before.before.before.before.before in
-    let a = s.before.before.args in (
+    let a = c.args in (
       omega arith,
-      omega (arith, next_start s.loop-i.i a.chunk),
+      omega (arith, next_start c.loop-i.i a.chunk),
       search rules,
-      c.before.before.set_buffer.ensures ∙ rw (s.loop-i.invariant.1, s.before.before.requires.2, s.loop-i.invariant.3) (sym (up_more (lay_start a.n a.len) s.loop-i.i a.s-1.now)),
+      c.set_buffer.ensures ∙ rw (c.loop-i.invariant.1, c.requires.2, c.loop-i.invariant.3) (sym (up_more (lay_start a.n a.len) c.loop-i.i a.s.now)),
     )
 
 pub returns : goal.returns
 returns c =
-    let s = c.before in
-    let a = s.before.before.args in
-    let z : s.loop-i.i ≡ a.n = omega arith in
-    rw z at s.loop-i.invariant.3
+    let a = c.args in
+    let z : c.loop-i.i ≡ a.n = omega arith in
+    rw z at c.loop-i.invariant.3

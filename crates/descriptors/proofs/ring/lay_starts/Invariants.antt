@@ -8,7 +8,7 @@ use Rattle.descriptors.proofs.ring.lay_starts.Given as goal
 
 abbrev pub invariant-loop-i : goal.invariant-loop-i
 invariant-loop-i l =
-    (l.i ≤ l.len) × (l.start ≡ l.i * l.step) × (length l.s ≡ length l.n) × (l.s ≡ up_to (lay_start l.len l.chunk) l.i l.n)
+    (l.i ≤ l.n) × (l.start ≡ l.i * l.chunk) × (length l.s ≡ length l.initial.s) × (l.s ≡ up_to (lay_start l.n l.len) l.i l.initial.s)
 
 abbrev pub decreases-loop-i : goal.decreases-loop-i
-decreases-loop-i l = l.len - l.i
+decreases-loop-i l = l.n - l.i

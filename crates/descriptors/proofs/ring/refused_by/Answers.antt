@@ -3,4 +3,4 @@ use Rattle.std.proofs.Common.{sym, ap, rules}
 use Rattle.descriptors.proofs.ring.refused_by.Goals as goal
 
 pub returns-in-Refused : goal.returns-in-Refused
-returns-in-Refused c = ap split_done (sym c.before.parts-1.given.1)
+returns-in-Refused c = ap split_done (sym c.in-Refused.is)

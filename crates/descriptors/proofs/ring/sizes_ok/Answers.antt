@@ -18,31 +18,29 @@ but_last p n true h g =
 
 pub loop-i-init : goal.loop-i-init
 loop-i-init c =
-    let a = c.before.before.args in
+    let a = c.args in
     (omega arith, rw c.scan_end-end.ensures (end-near (eqb a.last a.chunk) a.n), c.scan_end-end.ensures, refl)
 
 pub loop-i-preserved : goal.loop-i-preserved
 loop-i-preserved c =
-    let s = c.before.before.before in
-    let a = s.before.before.before.args in
+    let a = c.args in
     let p : ℕ → Bool = λ j. eqb (get_or a.w.now j 0) a.chunk in (
       omega arith,
-      s.loop-i.invariant.1,
-      s.loop-i.invariant.2,
-      ⊎_elim (λ w. w.1 ∙ flag_cleared p s.loop-i.i (ne_eqb _ _ w.0.taken))
-          (λ w. w.1 ∙ flag-kept p s.loop-i.i s.loop-i.ok s.loop-i.invariant.3 (eq-eqb _ _ w.0.left)) c.if-w-i.branch,
+      c.loop-i.invariant.1,
+      c.loop-i.invariant.2,
+      ⊎_elim (λ w. w.1 ∙ flag_cleared p c.loop-i.i (ne_eqb _ _ w.0.taken))
+          (λ w. w.1 ∙ flag-kept p c.loop-i.i c.loop-i.ok c.loop-i.invariant.3 (eq-eqb _ _ w.0.left)) c.if-w-i.branch,
     )
 
 pub returns-then-w-n : goal.returns-then-w-n
 returns-then-w-n c =
-    let a = c.before.before.before.before.before.before.args in
+    let a = c.args in
     rw (ne_eqb _ _ c.if-w-n.true) (sym (and-never (all_below (λ j. eqb (get_or a.w.now j 0) a.chunk) (a.n - 1))))
 
 pub returns : goal.returns
 returns c =
-    let s = c.before.before.before in
-    let a = s.before.before.before.args in
+    let a = c.args in
     let p : ℕ → Bool = λ j. eqb (get_or a.w.now j 0) a.chunk in
     let last : get_or a.w.now (a.n - 1) 0 ≡ a.last = c.if-w-n.false in
-    let z : s.loop-i.i ≡ cond (eqb a.last a.chunk) a.n (a.n - 1) = (let e : s.loop-i.i ≡ _ = omega arith in e) ∙ s.loop-i.invariant.2 in
-    rw (eq-eqb _ _ last) (s.loop-i.invariant.3 ∙ ap (all_below p) z ∙ but_last p a.n (eqb a.last a.chunk) (omega arith) (λ e. eq-eqb _ _ (last ∙ eqb-true _ _ e)) ∙ sym (and_right (all_below p (a.n - 1))))
+    let z : c.loop-i.i ≡ cond (eqb a.last a.chunk) a.n (a.n - 1) = (let e : c.loop-i.i ≡ _ = omega arith in e) ∙ c.loop-i.invariant.2 in
+    rw (eq-eqb _ _ last) (c.loop-i.invariant.3 ∙ ap (all_below p) z ∙ but_last p a.n (eqb a.last a.chunk) (omega arith) (λ e. eq-eqb _ _ (last ∙ eqb-true _ _ e)) ∙ sym (and_right (all_below p (a.n - 1))))

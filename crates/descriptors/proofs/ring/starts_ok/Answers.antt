@@ -28,15 +28,13 @@ loop-i-init c = (omega arith, refl, λ e. omega arith)
 
 pub loop-i-preserved : goal.loop-i-preserved
 loop-i-preserved c =
-    let j = c.before.before in
-    let s = j.before.before.before in
-    let a = s.before.before.args in
+    let a = c.args in
     let p : ℕ → Bool = λ k. eqb (get_or a.s.now k 0) (k * a.chunk) in
-    let i = s.loop-i.i in
+    let i = c.loop-i.i in
     let x = get_or a.s.now i 0 in
-    let flag : j.if-s-i.type-inv ≡ all_below p (i + 1) =
-    ⊎_elim (λ w. w.1 ∙ other p i x (i * a.chunk) s.loop-i.start refl s.loop-i.ok s.loop-i.invariant.1 s.loop-i.invariant.2 w.0.taken)
-    (λ w. w.1 ∙ same p i x (i * a.chunk) s.loop-i.start refl s.loop-i.ok s.loop-i.invariant.1 s.loop-i.invariant.2 w.0.left) j.if-s-i.branch in (
+    let flag : c.if-s-i.type-inv ≡ all_below p (i + 1) =
+    ⊎_elim (λ w. w.1 ∙ other p i x (i * a.chunk) c.loop-i.start refl c.loop-i.ok c.loop-i.invariant.1 c.loop-i.invariant.2 w.0.taken)
+    (λ w. w.1 ∙ same p i x (i * a.chunk) c.loop-i.start refl c.loop-i.ok c.loop-i.invariant.1 c.loop-i.invariant.2 w.0.left) c.if-s-i.branch in (
       omega arith,
       flag,
       λ e. c.wrapping_add_u32-start.ensures ∙ onward x i a.n a.chunk (all-at p (i + 1) i (sym flag ∙ e) (omega arith)) (omega arith) (omega arith) (omega arith),
@@ -44,7 +42,6 @@ loop-i-preserved c =
 
 pub returns : goal.returns
 returns c =
-    let s = c.before in
-    let a = s.before.before.args in
-    let z : s.loop-i.i ≡ a.n = omega arith in
-    rw z at s.loop-i.invariant.1
+    let a = c.args in
+    let z : c.loop-i.i ≡ a.n = omega arith in
+    rw z at c.loop-i.invariant.1

@@ -12,17 +12,15 @@ returns-then-g-gt-LIMIT c = sym (rw (lt-leb _ _ c.if-g-gt-LIMIT.true))
 
 pub loop-left-preserved : goal.loop-left-preserved
 loop-left-preserved c =
-    let s = c.before.before.before.before.before.before in
-    let a = s.before.before.before.args in (
+    let a = c.args in (
       search rules,
-      rw (c.after-at.ensures, c.before.before.before.hand_over_one.ensures)
-          (sym (turns_go a.dir (λ i. blank) a.n (hand_cells a.dir a.n) s.loop-left.left s.loop-left.at s.loop-left.w-1 (omega arith)) ∙ s.loop-left.invariant.1),
+      rw (c.after-at.ensures, c.hand_over_one.ensures)
+          (sym (turns_go a.dir (λ i. blank) a.n (hand_cells a.dir a.n) c.loop-left.left c.loop-left.at c.loop-left.w (omega arith)) ∙ c.loop-left.invariant.1),
     )
 
 pub returns : goal.returns
 unfolding hand_all
 returns c =
-    let s = c.before in
-    let a = s.before.before.before.args in
-    let z : s.loop-left.left ≡ 0 = omega arith in
-    rw (le-leb _ _ s.before.if-g-gt-LIMIT.false) (sym (turns-none a.dir (λ i. blank) a.n (hand_cells a.dir a.n) s.loop-left.at s.loop-left.w-1) ∙ ap (λ (k : ℕ). turns (hand_cells a.dir a.n) a.n k s.loop-left.at s.loop-left.w-1) (sym z) ∙ s.loop-left.invariant.1)
+    let a = c.args in
+    let z : c.loop-left.left ≡ 0 = omega arith in
+    rw (le-leb _ _ c.if-g-gt-LIMIT.false) (sym (turns-none a.dir (λ i. blank) a.n (hand_cells a.dir a.n) c.loop-left.at c.loop-left.w) ∙ ap (λ (k : ℕ). turns (hand_cells a.dir a.n) a.n k c.loop-left.at c.loop-left.w) (sym z) ∙ c.loop-left.invariant.1)

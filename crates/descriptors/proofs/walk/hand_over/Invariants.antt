@@ -8,7 +8,7 @@ use Rattle.descriptors.proofs.walk.hand_over.Given as goal
 
 abbrev pub invariant-loop-left : goal.invariant-loop-left
 invariant-loop-left l =
-    (length l.w ≡ length l.dir) × (turns (hand_cells l.n l.i) l.i l.left l.at l.w ≡ turns (hand_cells l.n l.i) l.i l.initial.w l.g l.dir)
+    (length l.w ≡ length l.initial.w) × (turns (hand_cells l.dir l.n) l.n l.left l.at l.w ≡ turns (hand_cells l.dir l.n) l.n l.g l.i l.initial.w)
 
 abbrev pub decreases-loop-left : goal.decreases-loop-left
 decreases-loop-left l = l.left

@@ -10,18 +10,16 @@ unfolding link_all
 returns-then-n-gt-LIMIT c = sym (rw (lt-leb _ _ c.if-n-gt-LIMIT.true))
 
 pub loop-i-init : goal.loop-i-init
-loop-i-init c = (search rules, refl, sym (up_none (link_cells c.before.before.args.dir c.before.before.args.n) c.before.before.args.w-1.now))
+loop-i-init c = (search rules, refl, sym (up_none (link_cells c.args.dir c.args.n) c.args.w.now))
 
 pub loop-i-preserved : goal.loop-i-preserved
 loop-i-preserved c =
-    let s = c.before.before.before.before.before in
-    let a = s.before.before.before.args in
-    (omega arith, search rules, c.before.before.link_one.ensures ∙ ap (link_cells a.dir a.n s.loop-i.i) s.loop-i.invariant.2 ∙ sym (up_more (link_cells a.dir a.n) s.loop-i.i a.w-1.now))
+    let a = c.args in
+    (omega arith, search rules, c.link_one.ensures ∙ ap (link_cells a.dir a.n c.loop-i.i) c.loop-i.invariant.2 ∙ sym (up_more (link_cells a.dir a.n) c.loop-i.i a.w.now))
 
 pub returns : goal.returns
 unfolding link_all
 returns c =
-    let s = c.before in
-    let a = s.before.before.before.args in
-    let z : s.loop-i.i ≡ a.n = omega arith in
-    rw (le-leb _ _ s.before.if-n-gt-LIMIT.false) (rw z at s.loop-i.invariant.2)
+    let a = c.args in
+    let z : c.loop-i.i ≡ a.n = omega arith in
+    rw (le-leb _ _ c.if-n-gt-LIMIT.false) (rw z at c.loop-i.invariant.2)

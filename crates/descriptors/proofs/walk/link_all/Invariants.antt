@@ -7,7 +7,7 @@ use Rattle.descriptors.proofs.walk.link_all.Given as goal
 
 abbrev pub invariant-loop-i : goal.invariant-loop-i
 invariant-loop-i l =
-    (l.i ≤ l.initial.w) × (length l.w ≡ length l.dir) × (l.w ≡ up_to (link_cells l.n l.initial.w) l.i l.dir)
+    (l.i ≤ l.n) × (length l.w ≡ length l.initial.w) × (l.w ≡ up_to (link_cells l.dir l.n) l.i l.initial.w)
 
 abbrev pub decreases-loop-i : goal.decreases-loop-i
-decreases-loop-i l = l.initial.w - l.i
+decreases-loop-i l = l.n - l.i

@@ -10,34 +10,24 @@ use Rattle.descriptors.proofs.walk.run_bytes.Goals as goal
 pub returns-then-n-gt-LIMIT : goal.returns-then-n-gt-LIMIT
 returns-then-n-gt-LIMIT c = sym (rw (lt-leb _ _ c.if-n-gt-LIMIT.true))
 
--- whether the record at the place is the CPU's
-owned : (c : goal.After-is_cpu) → is_cpu (record_at [] c.before.before.before.before.before.before.args.w.now c.before.before.before.loop-left.at).owner ≡ c.is_cpu.result
-owned c = ap is_cpu (sym c.before.owner_of-owner.ensures) ∙ sym c.is_cpu.ensures
-
 pub returns-then-not-is_cpu : goal.returns-then-not-is_cpu
 returns-then-not-is_cpu c =
-    let s = c.before.before.before.before in
-    let e = s.before in
-    let a = e.before.before.args in
-    rw (le-leb _ _ e.if-n-gt-LIMIT.false)
-    (omega (arith, s.loop-left.invariant.2, run-stop a.dir (record_at [] a.w.now) a.n s.loop-left.left s.loop-left.at (owned c.before ∙ not-true _ c.if-not-is_cpu.true-raw)))
+    let a = c.args in
+    rw (le-leb _ _ c.if-n-gt-LIMIT.false)
+    (omega (arith, c.loop-left.invariant.2, run-stop a.dir (record_at [] a.w.now) a.n c.loop-left.left c.loop-left.at ((ap is_cpu (sym c.owner_of-owner.ensures) ∙ sym c.is_cpu.ensures) ∙ not-true _ c.if-not-is_cpu.true-raw)))
 
 pub overflow_add-total : goal.overflow_add-total
-overflow_add-total c = omega (arith, c.span-total.ensures.1, c.before.before.before.before.before.loop-left.invariant.1)
+overflow_add-total c = omega (arith, c.span-total.ensures.1, c.loop-left.invariant.1)
 
 pub loop-left-preserved : goal.loop-left-preserved
 loop-left-preserved c =
-    let s = c.before.before.before.before.before.before in
-    let e = s.before in
-    let a = e.before.before.args in
-    let g = run-go a.dir (record_at [] a.w.now) a.n s.loop-left.left s.loop-left.at (omega arith) (owned c.before.before.before ∙ not-false _ c.before.before.if-not-is_cpu.false-raw) in
-    (omega arith, omega (arith, c.before.span-total.ensures.1), rw c.after-at.ensures (omega (arith, s.loop-left.invariant.2, c.before.span-total.ensures.0)))
+    let a = c.args in
+    let g = run-go a.dir (record_at [] a.w.now) a.n c.loop-left.left c.loop-left.at (omega arith) ((ap is_cpu (sym c.owner_of-owner.ensures) ∙ sym c.is_cpu.ensures) ∙ not-false _ c.if-not-is_cpu.false-raw) in
+    (omega arith, omega (arith, c.span-total.ensures.1), rw c.after-at.ensures (omega (arith, c.loop-left.invariant.2, c.span-total.ensures.0)))
 
 pub returns : goal.returns
 returns c =
-    let s = c.before in
-    let e = s.before in
-    let a = e.before.before.args in
-    let z : s.loop-left.left ≡ 0 = omega arith in
-    rw (le-leb _ _ e.if-n-gt-LIMIT.false)
-    (omega (arith, s.loop-left.invariant.2, ap (λ (k : ℕ). run_bytes a.dir (record_at [] a.w.now) a.n k s.loop-left.at) z, run_none a.dir (record_at [] a.w.now) a.n s.loop-left.at))
+    let a = c.args in
+    let z : c.loop-left.left ≡ 0 = omega arith in
+    rw (le-leb _ _ c.if-n-gt-LIMIT.false)
+    (omega (arith, c.loop-left.invariant.2, ap (λ (k : ℕ). run_bytes a.dir (record_at [] a.w.now) a.n k c.loop-left.at) z, run_none a.dir (record_at [] a.w.now) a.n c.loop-left.at))

@@ -6,10 +6,10 @@ use Rattle.descriptors.proofs.walk.span.Goals as goal
 
 pub returns-in-In : goal.returns-in-In
 returns-in-In c =
-    let a = c.before.before.before.before.args in
-    (c.length_of.ensures.0 ∙ ap (λ (d : TransferDirection). span_of d (record_at [] a.w.now a.i)) (sym c.before.enum_told-1.given.1), c.length_of.ensures.1)
+    let a = c.args in
+    (c.length_of.ensures.0 ∙ ap (λ (d : TransferDirection). span_of d (record_at [] a.w.now a.i)) (sym c.in-In.is), c.length_of.ensures.1)
 
 pub returns-in-Out : goal.returns-in-Out
 returns-in-Out c =
-    let a = c.before.before.before.before.args in
-    (c.type_size.ensures.0 ∙ ap (λ (d : TransferDirection). span_of d (record_at [] a.w.now a.i)) (sym c.before.enum_told-in-Out-1.given.1), c.type_size.ensures.1)
+    let a = c.args in
+    (c.size_of.ensures.0 ∙ ap (λ (d : TransferDirection). span_of d (record_at [] a.w.now a.i)) (sym c.in-Out.is), c.size_of.ensures.1)
