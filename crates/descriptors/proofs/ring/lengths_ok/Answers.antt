@@ -3,6 +3,7 @@ use Rattle.descriptors.specs.Cells.{all_below}
 use Rattle.descriptors.specs.Record.{limit}
 use Rattle.std.proofs.Common.{◌≡◌, ℕ, ◌+◌, ◌-◌, ◌≤◌, Bool, leb, get_or, ◌∙◌, ⊎_elim, arith, rules, le-leb}
 use borrow.Author.Tests.{lt-leb}
+use Rattle.descriptors.proofs.ring.lengths_ok.Goals.{else-w-i, then-w-i}
 use Rattle.descriptors.proofs.ring.lengths_ok.Goals as goal
 
 pub loop-i-preserved : goal.loop-i-preserved
@@ -10,8 +11,7 @@ loop-i-preserved c =
     let a = c.args in
     let p : ℕ → Bool = λ j. leb (get_or a.w.now (limit + j) 0) (get_or a.w.now j 0) in (
       omega arith,
-      ⊎_elim (λ w. w.1 ∙ flag_cleared p c.loop-i.i (lt-leb _ _ w.0.taken))
-          (λ w. w.1 ∙ flag-kept p c.loop-i.i c.loop-i.ok c.loop-i.invariant.1 (le-leb _ _ w.0.left)) c.if-w-i.branch,
+      elim c.if-w-i.branch [ then-w-i w ↦ w.ok-is ∙ flag_cleared p c.loop-i.i (lt-leb _ _ w.if-w-i.true) | else-w-i w ↦ w.ok-is ∙ flag-kept p c.loop-i.i c.loop-i.ok c.loop-i.invariant.1 (le-leb _ _ w.if-w-i.false) ],
     )
 
 pub returns : goal.returns

@@ -3,7 +3,7 @@ use Rattle.descriptors.specs.Cells.{all_below}
 use Rattle.descriptors.specs.Record.{limit}
 use Rattle.std.proofs.Common.{◌≡◌, ℕ, ◌+◌, ◌-◌, ◌*◌, ◌≤◌, Bool, leb, get_or, ◌∙◌, ⊎_elim, arith, rules, le-leb}
 use borrow.Author.Tests.{lt-leb}
-use Rattle.descriptors.proofs.ring.marks_ok.Goals.{then-w-j-gt1, else-w-j-gt1}
+use Rattle.descriptors.proofs.ring.marks_ok.Goals.{else-w-j-gt1, then-w-j-gt1}
 use Rattle.descriptors.proofs.ring.marks_ok.Goals as goal
 
 pub loop-j-preserved : goal.loop-j-preserved
@@ -11,10 +11,7 @@ loop-j-preserved c =
     let a = c.args in
     let p : ℕ → Bool = λ j. leb (get_or a.w.now (limit * 3 + j) 0) 1 in (
       omega arith,
-      elim c.if-w-j-gt1.branch [
-        | then-w-j-gt1 w ↦ let h = w in ?
-        | else-w-j-gt1 w ↦ let h = w in ?
-      ],
+      elim c.if-w-j-gt1.branch [ then-w-j-gt1 w ↦ w.ok-is ∙ flag_cleared p c.loop-j.j (lt-leb _ _ w.if-w-j-gt1.true) | else-w-j-gt1 w ↦ w.ok-is ∙ flag-kept p c.loop-j.j c.loop-j.ok c.loop-j.invariant.1 (le-leb _ _ w.if-w-j-gt1.false) ],
     )
 
 pub returns : goal.returns

@@ -3,6 +3,7 @@ use Rattle.descriptors.specs.Cells.{all_below}
 use Rattle.descriptors.specs.Record.{limit}
 use Rattle.std.proofs.Common.{◌≡◌, ℕ, ◌+◌, ◌-◌, ◌*◌, ◌≤◌, Bool, leb, get_or, ◌∙◌, ⊎_elim, arith, rules, le-leb}
 use borrow.Author.Tests.{lt-leb}
+use Rattle.descriptors.proofs.ring.nexts_ok.Goals.{else-most-w, then-most-w}
 use Rattle.descriptors.proofs.ring.nexts_ok.Goals as goal
 
 pub loop-i-preserved : goal.loop-i-preserved
@@ -10,8 +11,7 @@ loop-i-preserved c =
     let a = c.args in
     let p : ℕ → Bool = λ j. leb (get_or a.w.now (limit * 2 + j) 0) a.n in (
       omega arith,
-      ⊎_elim (λ w. w.1 ∙ flag_cleared p c.loop-i.i (lt-leb _ _ w.0.taken))
-          (λ w. w.1 ∙ flag-kept p c.loop-i.i c.loop-i.ok c.loop-i.invariant.1 (le-leb _ _ w.0.left)) c.if-most-w.branch,
+      elim c.if-most-w.branch [ then-most-w w ↦ w.ok-is ∙ flag_cleared p c.loop-i.i (lt-leb _ _ w.if-most-w.true) | else-most-w w ↦ w.ok-is ∙ flag-kept p c.loop-i.i c.loop-i.ok c.loop-i.invariant.1 (le-leb _ _ w.if-most-w.false) ],
     )
 
 pub returns : goal.returns

@@ -2,6 +2,7 @@ use Rattle.descriptors.specs.laws.Tests.{and_right, and-never}
 use Rattle.descriptors.specs.laws.Tests.{flag_cleared, flag-kept}
 use Rattle.descriptors.specs.Cells.{all_below}
 use Rattle.std.proofs.Common.{◌≡◌, ℕ, ◌+◌, ◌-◌, ◌<◌, ◌≤◌, Bool, true, false, cond, eqb, get_or, sym, refl, ap, ◌∙◌, ⊎_elim, arith, rules, eq-eqb, ne_eqb, eqb-true}
+use Rattle.descriptors.proofs.ring.sizes_ok.Goals.{else-w-i, then-w-i}
 use Rattle.descriptors.proofs.ring.sizes_ok.Goals as goal
 
 -- the end of the scan is no record's past the last
@@ -28,8 +29,7 @@ loop-i-preserved c =
       omega arith,
       c.loop-i.invariant.1,
       c.loop-i.invariant.2,
-      ⊎_elim (λ w. w.1 ∙ flag_cleared p c.loop-i.i (ne_eqb _ _ w.0.taken))
-          (λ w. w.1 ∙ flag-kept p c.loop-i.i c.loop-i.ok c.loop-i.invariant.3 (eq-eqb _ _ w.0.left)) c.if-w-i.branch,
+      elim c.if-w-i.branch [ then-w-i w ↦ w.ok-is ∙ flag_cleared p c.loop-i.i (ne_eqb _ _ w.if-w-i.true) | else-w-i w ↦ w.ok-is ∙ flag-kept p c.loop-i.i c.loop-i.ok c.loop-i.invariant.3 (eq-eqb _ _ w.if-w-i.false) ],
     )
 
 pub returns-then-w-n : goal.returns-then-w-n

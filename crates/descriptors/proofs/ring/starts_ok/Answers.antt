@@ -3,6 +3,7 @@ use Rattle.descriptors.specs.laws.Tests.{flag_cleared, flag-kept, and-stop, all-
 use Rattle.descriptors.specs.Cells.{all_below}
 use Rattle.descriptors.specs.Record.{limit}
 use Rattle.std.proofs.Common.{◌≡◌, ℕ, ◌+◌, ◌-◌, ◌*◌, ◌%◌, ◌^◌, ◌<◌, ◌≤◌, Bool, true, false, eqb, get_or, sym, refl, ◌∙◌, ⊎_elim, add-one, arith, rules, eq-eqb, ne_eqb, eqb-true}
+use Rattle.descriptors.proofs.ring.starts_ok.Goals.{else-s-i, then-s-i}
 use Rattle.descriptors.proofs.ring.starts_ok.Goals as goal
 
 -- a flag that is down stays down
@@ -32,9 +33,8 @@ loop-i-preserved c =
     let p : ℕ → Bool = λ k. eqb (get_or a.s.now k 0) (k * a.chunk) in
     let i = c.loop-i.i in
     let x = get_or a.s.now i 0 in
-    let flag : c.if-s-i.type-inv ≡ all_below p (i + 1) =
-    ⊎_elim (λ w. w.1 ∙ other p i x (i * a.chunk) c.loop-i.start refl c.loop-i.ok c.loop-i.invariant.1 c.loop-i.invariant.2 w.0.taken)
-    (λ w. w.1 ∙ same p i x (i * a.chunk) c.loop-i.start refl c.loop-i.ok c.loop-i.invariant.1 c.loop-i.invariant.2 w.0.left) c.if-s-i.branch in (
+    let flag : c.if-s-i.ok ≡ all_below p (i + 1) =
+    elim c.if-s-i.branch [ then-s-i w ↦ w.ok-is ∙ other p i x (i * a.chunk) c.loop-i.start refl c.loop-i.ok c.loop-i.invariant.1 c.loop-i.invariant.2 w.if-s-i.true | else-s-i w ↦ w.ok-is ∙ same p i x (i * a.chunk) c.loop-i.start refl c.loop-i.ok c.loop-i.invariant.1 c.loop-i.invariant.2 w.if-s-i.false ] in (
       omega arith,
       flag,
       λ e. c.wrapping_add_u32-start.ensures ∙ onward x i a.n a.chunk (all-at p (i + 1) i (sym flag ∙ e) (omega arith)) (omega arith) (omega arith) (omega arith),
