@@ -37,7 +37,7 @@ loop-i-preserved c =
     elim c.if-s-i.branch [ then-s-i w ↦ w.ok-is ∙ other p i x (i * a.chunk) c.loop-i.start refl c.loop-i.ok c.loop-i.invariant.1 c.loop-i.invariant.2 w.if-s-i.true | else-s-i w ↦ w.ok-is ∙ same p i x (i * a.chunk) c.loop-i.start refl c.loop-i.ok c.loop-i.invariant.1 c.loop-i.invariant.2 w.if-s-i.false ] in (
       omega arith,
       flag,
-      λ e. c.wrapping_add_u32-start.ensures ∙ onward x i a.n a.chunk (all-at p (i + 1) i (sym flag ∙ e) (omega arith)) (omega arith) (omega arith) (omega arith),
+      λ e. c.wrapping_add_u32-start.ensures.value ∙ onward x i a.n a.chunk (all-at p (i + 1) i (sym flag ∙ e) (omega arith)) (omega arith) (omega arith) (omega arith),
     )
 
 pub returns : goal.returns
