@@ -11,7 +11,7 @@ use descriptors::refusal::{DmaAlignmentError, DmaBufError, Done};
 pub const WIDEST: u32 = 64;
 
 // A memory region, half-open: an end wants more than 32 bits.
-#[derive(Drop)]
+#[derive(Clone, Copy)]
 pub struct Region {
     pub start: u64,
     pub end: u64,

@@ -5,7 +5,7 @@ use mathlib.Core.List.{[], ◌∷◌, List, map, ◌++◌}
 use lib.ListN.{length, length-map, take, drop, take-append-drop}
 use lib.Seq.{length-take-le}
 use seplogic.Ra.Ura.{Ura}
-use seplogic.Ra.TreeShare.{full_share}
+use base.Fraction.{full_share}
 use mir.Syntax.{Ty}
 use mir.Val.{Val}
 use base.Logic.{ent, sep, guard}

@@ -1,4 +1,4 @@
--- Laws of `new` over a list, which the walk of `list::new_over` cites.
+-- Laws of `new` over a list, which the proof of `list::new_over` cites.
 use Prim.Native.Nat.{ℕ, ◌+◌, ◌/◌, ◌%◌, ◌≤◌}
 use mathlib.Core.Path.{◌≡◌, refl, sym, ap}
 use mathlib.Core.Bool.{Bool, true, false}

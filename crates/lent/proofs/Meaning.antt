@@ -1,4 +1,4 @@
--- What the lent list holds, in the document's words. No walk cites it.
+-- What the lent list holds, in the document's words. No proof of the code cites it.
 use Prim.Native.Nat.{ℕ, ◌<◌}
 use mathlib.Core.Path.{◌≡◌, ◌∙◌, ap}
 use mathlib.Core.List.{List}

@@ -77,7 +77,7 @@ pub fn consume_at(c: &mut Cursor, ring: DmaRxStreamBufView, len: usize, k: usize
     step.done
 }
 
-// A consume from a cursor by value: it is lent for the call. Whoever calls this needs no walk.
+// A consume from a cursor by value: it is lent for the call.
 pub fn consume_with(at: Cursor, ring: DmaRxStreamBufView, len: usize, k: usize) -> Stepped
     ensures { result ≡ consume_from ring at len k }
 {

@@ -109,7 +109,7 @@ fn new_first(dir: TransferDirection, ds: Records, n: usize, len: usize) -> Laid
     Laid { list, answer }
 }
 
-// The same for every n: whoever calls this needs no walk. More records than there are is 4.
+// The same for every n. More records than there are is 4.
 pub fn new_with(dir: TransferDirection, ds: Records, n: usize, len: usize) -> Laid
     ensures { result ≡ new_with dir ds n len }
 {

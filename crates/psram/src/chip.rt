@@ -8,7 +8,7 @@ pub const LINE: usize = 16;
 // The most bytes of a piece.
 pub const PIECE: usize = 4080;
 
-#[derive(Drop)]
+#[derive(Clone, Copy)]
 pub enum Chip {
     Ordinary,
     S2,

@@ -1,7 +1,7 @@
 // What a range is cut into.
 use descriptors::refusal::DmaBufError;
 
-#[derive(Drop)]
+#[derive(Clone, Copy)]
 pub enum Cut {
     Parts {
         head: usize,
@@ -12,7 +12,7 @@ pub enum Cut {
 }
 
 // The parts of a range, and the size of each half of the store, which holds the outer two.
-#[derive(Drop)]
+#[derive(Clone, Copy)]
 pub struct Plan {
     pub head: usize,
     pub middle: usize,

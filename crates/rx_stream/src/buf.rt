@@ -13,7 +13,7 @@ use descriptors::refusal::Done;
 use descriptors::ring;
 use descriptors::ring::Head;
 
-#[derive(Drop)]
+#[derive(Clone, Copy)]
 pub struct DmaRxStreamBuf {
     pub starts: [u32; LIMIT],
     pub cells: [u16; CELLS],
@@ -21,21 +21,21 @@ pub struct DmaRxStreamBuf {
 }
 
 // What new answers, and the ring that it makes of the words: after a refusal they are as they were lent.
-#[derive(Drop)]
+#[derive(Clone, Copy)]
 pub struct Built {
     pub ring: DmaRxStreamBuf,
     pub answer: Done,
 }
 
 // What prepare answers, and the ring that it leaves.
-#[derive(Drop)]
+#[derive(Clone, Copy)]
 pub struct Prepared {
     pub ring: DmaRxStreamBuf,
     pub answer: Done,
 }
 
 // The words that a ring was made of.
-#[derive(Drop)]
+#[derive(Clone, Copy)]
 pub struct Parts {
     pub starts: [u32; LIMIT],
     pub cells: [u16; CELLS],

@@ -30,7 +30,8 @@ fn copy_part(src: &[u8], start: usize, dst: &mut [u8], at: usize, m: usize)
     ensures { dst.new ≡ paste dst.old at (drop start src.now) m }
 {
     let end = start + m;
-    bytes::copy(&src[start..end], &mut dst[at..]);
+    let to = at + m;
+    dst[at..to].copy_from_slice(&src[start..end]);
 }
 
 pub(crate) fn copy_run<'a>(s: &'a [u32], w: &'a [u16], h: Head, src: &[u8], dst: &mut [u8])

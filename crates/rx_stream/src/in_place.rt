@@ -105,7 +105,7 @@ pub fn peek_eof_in<'a>(s: &'a [u32], w: &'a [u16], h: Head, len: usize) -> Ended
 
 // ---- bytes taken
 
-#[derive(Drop)]
+#[derive(Clone, Copy)]
 pub struct Taking {
     pub head: Head,
     pub taken: usize,
@@ -136,7 +136,7 @@ fn take_in(w: &mut [u16], h: Head, k: usize) -> Taking
     }
 }
 
-#[derive(Drop)]
+#[derive(Clone, Copy)]
 pub struct Consuming {
     pub head: Head,
     pub answer: Took,
@@ -179,7 +179,7 @@ fn idle(w: &[u16], i: usize, k: usize) -> bool
     cells::length_of(w, i) == 0
 }
 
-#[derive(Drop)]
+#[derive(Clone, Copy)]
 pub struct Popping {
     pub head: Head,
     pub answer: Counted,

@@ -11,14 +11,14 @@ pub mod buf; // buf.rt: DmaRxStreamBuf, a ring before and after a transfer
 pub mod view; // view.rt: DmaRxStreamBufView, a ring during a transfer
 
 // What a consume answers: the bytes taken and the records gone back.
-#[derive(Drop)]
+#[derive(Clone, Copy)]
 pub enum Took {
     Bytes { taken: usize, back: usize },
     Refused(DmaBufError),
 }
 
 // What the companion of peek_until_eof answers: whether the part ended at an EOF record.
-#[derive(Drop)]
+#[derive(Clone, Copy)]
 pub enum Ended {
     Eof(bool),
     Refused(DmaBufError),

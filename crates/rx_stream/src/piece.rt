@@ -76,7 +76,7 @@ pub fn flat_eof(w: &[u16], n: usize, i: usize) -> bool
 }
 
 // The bytes and the records of a piece.
-#[derive(Drop)]
+#[derive(Clone, Copy)]
 pub struct Piece {
     pub bytes: usize,
     pub records: usize,

@@ -11,7 +11,7 @@ use descriptors::record::LIMIT;
 use descriptors::refusal::{Counted, Done};
 use descriptors::ring::Head;
 
-#[derive(Drop)]
+#[derive(Clone, Copy)]
 pub struct DmaRxStreamBufView {
     pub starts: [u32; LIMIT],
     pub cells: [u16; CELLS],
@@ -19,14 +19,14 @@ pub struct DmaRxStreamBufView {
 }
 
 // What consume answers, and the ring that it leaves.
-#[derive(Drop)]
+#[derive(Clone, Copy)]
 pub struct Consumed {
     pub ring: DmaRxStreamBufView,
     pub answer: Took,
 }
 
 // What pop answers, and the ring that it leaves.
-#[derive(Drop)]
+#[derive(Clone, Copy)]
 pub struct Popped {
     pub ring: DmaRxStreamBufView,
     pub answer: Counted,

@@ -2,7 +2,7 @@
 ghost use Rattle.std.specs.Prelude.{◌≡◌, length};
 ghost use Rattle.descriptors.specs.Cells.{records_of};
 ghost use Rattle.descriptors.specs.Ring.{new_of};
-ghost use Rattle.descriptors.specs.Part.{part_from};
+ghost use Rattle.descriptors.specs.Part.{part_from, as_read};
 ghost use Rattle.tx_stream.specs.Transmit.{prefill_of, prefill_into, prefill_offer_of, prefill_offer_refusal_of, prefill_commit_of, prepare_of};
 ghost use Rattle.tx_stream.specs.Faces.{prefill_place};
 ghost use Rattle.tx_stream.specs.Values.{buf_ring, built_of, pushed_of, prepared_of};
@@ -103,7 +103,7 @@ impl DmaTxStreamBuf {
     // The Rust's `push_with`, in two: the part on offer, to be written, and then a commit.
     pub fn offer<'a>(self, buffer: &'a mut [u8]) -> &'a mut [u8]
         ensures result_value { result.now ≡ prefill_offer_of (buf_ring self) buffer.old }
-        ensures ref_ptr_value { result.ref_ptr ≡ part_from buffer.entry (prefill_place (buf_ring self) buffer.old) }
+        ensures ref_ptr_value { result.ref_ptr ≡ part_from (as_read buffer.entry) (prefill_place (buf_ring self) buffer.old) }
     {
         let s = self.starts;
         let w = self.cells;

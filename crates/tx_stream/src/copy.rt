@@ -13,7 +13,8 @@ pub(crate) fn copy_to(buffer: &mut [u8], at: usize, piece: &[u8])
     requires { at + length piece.now ≤ length buffer.old }
     ensures { buffer.new ≡ paste buffer.old at piece.now (length piece.now) }
 {
-    bytes::copy(piece, &mut buffer[at..]);
+    let end = at + piece.len();
+    buffer[at..end].copy_from_slice(piece);
 }
 
 pub(crate) fn copy_round(buffer: &mut [u8], at: usize, data: &[u8], k: usize)

@@ -2,7 +2,7 @@
 ghost use Rattle.std.specs.Prelude.{◌≡◌, length};
 ghost use Rattle.descriptors.specs.Cells.{cells_now};
 ghost use Rattle.descriptors.specs.Ring.{ring_of};
-ghost use Rattle.descriptors.specs.Part.{part_from};
+ghost use Rattle.descriptors.specs.Part.{part_from, as_read};
 ghost use Rattle.tx_stream.specs.Transmit.{available_of, push_of, push_into, offer_of, offer_refusal_of, commit_of, advance_of};
 ghost use Rattle.tx_stream.specs.Faces.{accepting_of, offer_place};
 
@@ -43,7 +43,7 @@ pub fn push_in(s: &[u32], w: &mut [u16], h: Head, buffer: &mut [u8], data: &[u8]
 // The free bytes from the cursor to the buffer's end, to be written before a commit; empty on a refusal, which the companion names.
 pub fn offer_in<'a, 'b>(s: &'b [u32], w: &'b [u16], h: Head, buffer: &'a mut [u8]) -> &'a mut [u8]
     ensures result_value { result.now ≡ offer_of (ring_of s.now w.now h) buffer.old }
-    ensures ref_ptr_value { result.ref_ptr ≡ part_from buffer.entry (offer_place (ring_of s.now w.now h) buffer.old) }
+    ensures ref_ptr_value { result.ref_ptr ≡ part_from (as_read buffer.entry) (offer_place (ring_of s.now w.now h) buffer.old) }
 {
     let len = buffer.len();
     let answer = ring::judge(TransferDirection::Out, s, w, h, len);

@@ -1,7 +1,7 @@
 // Before `prepare`: bytes behind the prefilled ones. The records stay as they are.
 ghost use Rattle.std.specs.Prelude.{◌≡◌, ◌+◌, ◌^◌, ◌<◌, length};
 ghost use Rattle.descriptors.specs.Ring.{ring_of};
-ghost use Rattle.descriptors.specs.Part.{part_from};
+ghost use Rattle.descriptors.specs.Part.{part_from, as_read};
 ghost use Rattle.tx_stream.specs.Transmit.{prefill_of, prefill_into, prefill_offer_of, prefill_offer_refusal_of, prefill_commit_of};
 ghost use Rattle.tx_stream.specs.Faces.{accepting_of, prefilled_head, prefill_place};
 
@@ -57,7 +57,7 @@ pub fn prefill_offer_in<'a, 'b>(
     buffer: &'a mut [u8],
 ) -> &'a mut [u8]
     ensures result_value { result.now ≡ prefill_offer_of (ring_of s.now w.now h) buffer.old }
-    ensures ref_ptr_value { result.ref_ptr ≡ part_from buffer.entry (prefill_place (ring_of s.now w.now h) buffer.old) }
+    ensures ref_ptr_value { result.ref_ptr ≡ part_from (as_read buffer.entry) (prefill_place (ring_of s.now w.now h) buffer.old) }
 {
     let answer = ring::judge_split(s, w, h, buffer.len());
     let Done::Ready = answer else {

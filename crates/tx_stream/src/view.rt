@@ -1,6 +1,6 @@
 // The ring by value, while the device sends: each call takes the ring and gives it back, over the call in place.
 ghost use Rattle.std.specs.Prelude.{◌≡◌, length};
-ghost use Rattle.descriptors.specs.Part.{part_from};
+ghost use Rattle.descriptors.specs.Part.{part_from, as_read};
 ghost use Rattle.tx_stream.specs.Transmit.{available_of, push_of, push_into, offer_of, offer_refusal_of, commit_of, advance_of};
 ghost use Rattle.tx_stream.specs.Faces.{offer_place};
 ghost use Rattle.tx_stream.specs.Values.{view_ring, advanced_of};
@@ -60,7 +60,7 @@ impl DmaTxStreamBufView {
     // The Rust's `push_with`, in two: the part on offer, to be written, and then a commit.
     pub fn offer<'a>(self, buffer: &'a mut [u8]) -> &'a mut [u8]
         ensures result_value { result.now ≡ offer_of (view_ring self) buffer.old }
-        ensures ref_ptr_value { result.ref_ptr ≡ part_from buffer.entry (offer_place (view_ring self) buffer.old) }
+        ensures ref_ptr_value { result.ref_ptr ≡ part_from (as_read buffer.entry) (offer_place (view_ring self) buffer.old) }
     {
         let s = self.starts;
         let w = self.cells;

@@ -1,0 +1,14 @@
+use Rattle.rx_stream.specs.laws.Flats.{flat-none, flat-stop, flat-ends, flat-go}
+use Rattle.rx_stream.specs.Receive.{flat_bytes}
+use Rattle.descriptors.specs.Cells.{record_at}
+use Rattle.descriptors.specs.Record.{is_cpu}
+use Rattle.std.proofs.Common.{◌≡◌, ℕ, ◌+◌, ◌-◌, ◌*◌, ◌≤◌, [], sym, ap, ◌∙◌, arith, rules, le-leb}
+use borrow.Author.Tests.{lt-leb, not-true, not-false}
+use Rattle.rx_stream.proofs.piece.flat_bytes.Given as goal
+
+abbrev pub invariant-loop-at : goal.invariant-loop-at
+invariant-loop-at l =
+    (l.total ≤ 65535 * l.at) × (l.total + flat_bytes l.until_eof (record_at [] l.w) (l.n - l.at) l.at ≡ flat_bytes l.until_eof (record_at [] l.w) (l.n - l.i) l.i)
+
+abbrev pub decreases-loop-at : goal.decreases-loop-at
+decreases-loop-at l = l.n - l.at

@@ -1,0 +1,15 @@
+use Rattle.rx_stream.specs.laws.Flats.{grown, grown-none, grown-zero, grown-stop, grown-full, grown-short, grown-on}
+use Rattle.rx_stream.specs.Pieces.{piece_of}
+use Rattle.descriptors.specs.Cells.{record_at}
+use Rattle.descriptors.specs.Record.{is_cpu}
+use Rattle.std.proofs.Common.{◌≡◌, ◌+◌, ◌-◌, ◌*◌, ◌≤◌, [], sym, ap, ◌∙◌, arith, rules, le-leb}
+use borrow.Author.Tests.{lt-leb, not-true, not-false}
+use Rattle.rx_stream.proofs.piece.piece_of.Given as goal
+
+abbrev pub invariant-loop-at : goal.invariant-loop-at
+invariant-loop-at l =
+    (l.bytes ≤ 65535 * l.records) × (l.at ≡ l.i + l.records)
+    × (grown l.bytes l.records (piece_of (record_at [] l.w) l.offset (l.want - l.bytes) (l.end - l.at) l.at) ≡ piece_of (record_at [] l.w) l.o l.want (l.end - l.i) l.i)
+
+abbrev pub decreases-loop-at : goal.decreases-loop-at
+decreases-loop-at l = l.end - l.at

@@ -1,0 +1,13 @@
+use Rattle.tx_stream.specs.Faces.{fill_cells}
+use Rattle.descriptors.specs.laws.Updates.{up_none, up_more}
+use Rattle.descriptors.specs.Cells.{put_length, put_eof}
+use Rattle.descriptors.specs.Record.{up_to}
+use Rattle.std.proofs.Common.{◌≡◌, ℕ, ◌-◌, ◌≤◌, true, List, length, sym, refl, ap, ◌∙◌, arith, rules}
+use Rattle.tx_stream.proofs.prepare.mark_filled.Given as goal
+
+abbrev pub invariant-loop-d : goal.invariant-loop-d
+invariant-loop-d l =
+    (l.d ≤ l.end) × (length l.w ≡ length l.initial.w) × (l.w ≡ up_to fill_cells l.d l.initial.w)
+
+abbrev pub decreases-loop-d : goal.decreases-loop-d
+decreases-loop-d l = l.end - l.d
