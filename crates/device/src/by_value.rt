@@ -11,7 +11,7 @@ use rx_stream::view::DmaRxStreamBufView;
 use tx_stream::view::DmaTxStreamBufView;
 
 // What a receive step answers, with the ring and the device that it leaves.
-#[derive(Drop)]
+#[derive(Clone, Copy)]
 pub struct ReceivedStep {
     pub ring: DmaRxStreamBufView,
     pub device: Next,
@@ -19,7 +19,7 @@ pub struct ReceivedStep {
 }
 
 // The same of a transmit step.
-#[derive(Drop)]
+#[derive(Clone, Copy)]
 pub struct SentStep {
     pub ring: DmaTxStreamBufView,
     pub device: Next,

@@ -13,7 +13,7 @@ use descriptors::refusal::{DmaBufError, Done};
 use descriptors::ring::Head;
 
 // What a step answers, and where the device then stands.
-#[derive(Drop)]
+#[derive(Clone, Copy)]
 pub struct Received {
     pub device: Next,
     pub answer: Done,
@@ -53,7 +53,7 @@ fn place(buffer: &mut [u8], at: usize, incoming: &[u8])
     ensures { buffer.new ≡ paste buffer.old at incoming.now (length incoming.now) }
 {
     let end = at + incoming.len();
-    bytes::copy(incoming, &mut buffer[at..end]);
+    buffer[at..end].copy_from_slice(incoming);
 }
 
 // One receive step over lent words: the bytes go to the record's start. It answers 5, then 7, then 6; it looks at no owner.

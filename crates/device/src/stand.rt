@@ -8,7 +8,7 @@ use descriptors::refusal::{DmaBufError, Done};
 use descriptors::ring;
 use descriptors::ring::Head;
 
-#[derive(Drop)]
+#[derive(Clone, Copy)]
 pub enum Stand {
     On(usize),
     Refused(DmaBufError),

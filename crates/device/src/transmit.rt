@@ -11,7 +11,7 @@ use descriptors::refusal::{Counted, DmaBufError};
 use descriptors::ring::Head;
 
 // What a step answers, the number of bytes that it sent, and where the device then stands.
-#[derive(Drop)]
+#[derive(Clone, Copy)]
 pub struct Sent {
     pub device: Next,
     pub answer: Counted,
@@ -39,7 +39,7 @@ fn send(buffer: &[u8], at: usize, k: usize, out: &mut [u8])
     ensures { out.new ≡ take k (drop at buffer.now) ++ drop k out.old }
 {
     let end = at + k;
-    bytes::copy(&buffer[at..end], out);
+    out[..k].copy_from_slice(&buffer[at..end]);
 }
 
 // One transmit step over lent words: the record's bytes go to the output's front. It answers 5, then 7; an output that is too short

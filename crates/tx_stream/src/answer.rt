@@ -5,7 +5,7 @@ ghost use Rattle.tx_stream.specs.Faces.{counted_of};
 use descriptors::refusal::{Counted, DmaBufError, Done};
 use descriptors::ring::Head;
 
-#[derive(Drop)]
+#[derive(Clone, Copy)]
 pub struct Accepting {
     pub head: Head,
     pub answer: Counted,

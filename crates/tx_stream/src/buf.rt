@@ -15,33 +15,33 @@ use descriptors::refusal::{Counted, Done};
 use descriptors::ring;
 use descriptors::ring::Head;
 
-#[derive(Drop)]
+#[derive(Clone, Copy)]
 pub struct DmaTxStreamBuf {
     pub starts: [u32; LIMIT],
     pub cells: [u16; CELLS],
     pub head: Head,
 }
 
-#[derive(Drop)]
+#[derive(Clone, Copy)]
 pub struct Built {
     pub ring: DmaTxStreamBuf,
     pub answer: Done,
 }
 
-#[derive(Drop)]
+#[derive(Clone, Copy)]
 pub struct Pushed {
     pub ring: DmaTxStreamBuf,
     pub answer: Counted,
 }
 
-#[derive(Drop)]
+#[derive(Clone, Copy)]
 pub struct Prepared {
     pub ring: DmaTxStreamBuf,
     pub answer: Done,
 }
 
 // The words of the records, given back.
-#[derive(Drop)]
+#[derive(Clone, Copy)]
 pub struct Descriptors {
     pub starts: [u32; LIMIT],
     pub cells: [u16; CELLS],

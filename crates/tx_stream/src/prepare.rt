@@ -11,7 +11,7 @@ use descriptors::refusal::Done;
 use descriptors::ring::{Head, Headed};
 use descriptors::{cells, ring, walk};
 
-#[derive(Drop)]
+#[derive(Clone, Copy)]
 pub struct Cursor {
     pub at: usize,
     pub offset: usize,

@@ -12,14 +12,14 @@ use descriptors::refusal::{Counted, Done};
 use descriptors::ring::Head;
 
 // A view into a DmaTxStreamBuf.
-#[derive(Drop)]
+#[derive(Clone, Copy)]
 pub struct DmaTxStreamBufView {
     pub starts: [u32; LIMIT],
     pub cells: [u16; CELLS],
     pub head: Head,
 }
 
-#[derive(Drop)]
+#[derive(Clone, Copy)]
 pub struct Advanced {
     pub ring: DmaTxStreamBufView,
     pub answer: Counted,
