@@ -36,7 +36,7 @@ fn at_most(word: &[u8], most: usize) -> Argument {
 
 // 0 for the word `none`, else one more than a number that is below `most`.
 fn or_none(word: &[u8], none: &[u8], most: usize) -> Argument {
-    if check::same(word, none) {
+    if word == none {
         return Argument::Is(0);
     }
     match at_most(word, most) {
@@ -52,10 +52,10 @@ fn or_none(word: &[u8], none: &[u8], most: usize) -> Argument {
 
 // One of two words.
 fn either(word: &[u8], first: &[u8], second: &[u8]) -> Argument {
-    if check::same(word, first) {
+    if word == first {
         return Argument::Is(0);
     }
-    if check::same(word, second) {
+    if word == second {
         return Argument::Is(1);
     }
     Argument::Wrong(Why::NoSuchWord)

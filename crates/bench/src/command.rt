@@ -1,9 +1,9 @@
 // The commands: their names, and the kinds of their arguments.
 use crate::arguments;
 use crate::arguments::Arguments;
-use check::same;
+use crate::word::same;
 
-#[derive(Drop)]
+#[derive(Clone, Copy)]
 pub enum Command {
     Unknown,
     Record,
@@ -19,7 +19,7 @@ pub enum Command {
 }
 
 // On a ring of either direction.
-#[derive(Drop)]
+#[derive(Clone, Copy)]
 pub enum OfRing {
     Prepare,
     Cursor,
@@ -30,7 +30,7 @@ pub enum OfRing {
     Show,
 }
 
-#[derive(Drop)]
+#[derive(Clone, Copy)]
 pub enum OfReceive {
     Peek,
     PeekUntilEof,
@@ -39,7 +39,7 @@ pub enum OfReceive {
     Fill,
 }
 
-#[derive(Drop)]
+#[derive(Clone, Copy)]
 pub enum OfTransmit {
     Prefilled,
     Prefill,

@@ -1,10 +1,10 @@
 // The input, a block at a time, and its lines.
-ghost use Rattle.std.specs.Prelude.{◌≤◌, length};
+ghost use Rattle.std.specs.Prelude.{◌≡◌, ◌≢◌, ℕ, ◌<◌, ◌≤◌, length, slice_index};
 
 use crate::state::{Bench, Turn};
 use crate::why::Why;
 use crate::{run, say, state};
-use libc::STDOUT_FILENO;
+use std::io::{Read, Stdout, Write};
 
 const NEWLINE: u8 = 10;
 
@@ -41,15 +41,15 @@ pub fn start() -> Place {
     }
 }
 
-fn flush(out: &[u8], at: usize) -> bool {
-    io::write_all(STDOUT_FILENO, state::front(out, at))
+fn flush(mut to: Stdout, out: &[u8], at: usize) -> bool {
+    to.write_all(state::front(out, at)).is_ok()
 }
 
-fn flush_half(out: &[u8], at: usize) -> usize {
+fn flush_half(to: Stdout, out: &[u8], at: usize) -> usize {
     if at < HALF {
         return at;
     }
-    flush(out, at);
+    flush(to, out, at);
     0
 }
 
@@ -67,6 +67,7 @@ fn trimmed(line: &[u8]) -> &[u8] {
 
 // One line, unless it is the end of one that is passed over.
 fn one(
+    to: Stdout,
     line: &[u8],
     passing: bool,
     s: &mut [u32],
@@ -84,12 +85,28 @@ fn one(
     let bench = t.bench;
     Turn {
         bench,
-        at: flush_half(out, t.at),
+        at: flush_half(to, out, t.at),
     }
+}
+
+// The first place from `from` on, and below `to`, that holds the byte; `to` where there is none.
+fn find(input: &[u8], from: usize, to: usize, byte: u8) -> usize
+    requires { (from ≤ to) × (to ≤ length input.now) }
+    ensures within { (from ≤ result) × (result ≤ to) }
+    ensures before { (k : ℕ) → from ≤ k → k < result → slice_index input.now k ≢ byte }
+    ensures found { result < to → slice_index input.now result ≡ byte }
+{
+    for i in from..to {
+        if input[i] == byte {
+            return i;
+        }
+    }
+    to
 }
 
 // The lines that end in the first `have` bytes of a block.
 fn lines(
+    to: Stdout,
     input: &[u8],
     have: usize,
     s: &mut [u32],
@@ -106,11 +123,12 @@ fn lines(
     let mut at: usize = 0;
     let mut from: usize = 0;
     while from < have {
-        let end = bytes::scan::find(input, from, have, NEWLINE);
+        let end = find(input, from, have, NEWLINE);
         if end == have {
             break;
         }
         let t = one(
+            to,
             &input[from..end],
             passing,
             s,
@@ -151,11 +169,11 @@ fn shift(input: &mut [u8], from: usize, have: usize) -> usize {
 }
 
 // What is left of a block: a line that is too long already is passed over.
-fn rest(input: &mut [u8], have: usize, out: &mut [u8], l: After) -> Place {
+fn rest(to: Stdout, input: &mut [u8], have: usize, out: &mut [u8], l: After) -> Place {
     let bench = l.bench;
     let kept = shift(input, l.from, have);
     if l.passing {
-        let open = flush(out, l.at);
+        let open = flush(to, out, l.at);
         return Place {
             bench,
             kept: 0,
@@ -165,7 +183,7 @@ fn rest(input: &mut [u8], have: usize, out: &mut [u8], l: After) -> Place {
     }
     if run::LINE + 1 < kept {
         let at = say::wrong(out, l.at, Why::TooLong);
-        let open = flush(out, at);
+        let open = flush(to, out, at);
         return Place {
             bench,
             kept: 0,
@@ -173,7 +191,7 @@ fn rest(input: &mut [u8], have: usize, out: &mut [u8], l: After) -> Place {
             open,
         };
     }
-    let open = flush(out, l.at);
+    let open = flush(to, out, l.at);
     Place {
         bench,
         kept,
@@ -184,6 +202,7 @@ fn rest(input: &mut [u8], have: usize, out: &mut [u8], l: After) -> Place {
 
 // The input has ended: what is kept is the last line.
 fn last(
+    to: Stdout,
     input: &[u8],
     s: &mut [u32],
     w: &mut [u16],
@@ -203,7 +222,7 @@ fn last(
         out,
         0,
     );
-    flush(out, t.at);
+    flush(to, out, t.at);
     let left = t.bench;
     Place {
         bench: left,
@@ -214,20 +233,22 @@ fn last(
 }
 
 // Reads behind what is kept; answers where the input then ends.
-fn read_behind(fd: i32, input: &mut [u8], kept: usize) -> usize
+fn read_behind<R: Read>(source: &mut R, input: &mut [u8], kept: usize) -> usize
     ensures { result ≤ length input.new }
 {
     if input.len() <= kept {
         return input.len();
     }
-    let room = &mut input[kept..];
-    let got = libc::read(fd, room);
-    kept + io::count(got, room)
+    match source.read(&mut input[kept..]) {
+        Ok(got) => kept + got,
+        Err(_) => kept,
+    }
 }
 
 // One block of the input.
-pub fn block(
-    fd: i32,
+pub fn block<R: Read>(
+    source: &mut R,
+    to: Stdout,
     input: &mut [u8],
     s: &mut [u32],
     w: &mut [u16],
@@ -236,10 +257,10 @@ pub fn block(
     out: &mut [u8],
     p: Place,
 ) -> Place {
-    let have = read_behind(fd, input, p.kept);
+    let have = read_behind(source, input, p.kept);
     if have == p.kept {
-        return last(input, s, w, buffer, data, out, p);
+        return last(to, input, s, w, buffer, data, out, p);
     }
-    let l = lines(input, have, s, w, buffer, data, out, p);
-    rest(input, have, out, l)
+    let l = lines(to, input, have, s, w, buffer, data, out, p);
+    rest(to, input, have, out, l)
 }

@@ -25,7 +25,12 @@ ghost use Rattle.std.specs.Prelude.{◌≡◌, length};
 
 use descriptors::cells::CELLS;
 use descriptors::record::LIMIT;
-use libc::STDIN_FILENO;
+use std::env::FillError;
+use std::fmt::Display;
+use std::fs::File;
+use std::io::{Read, Stdout};
+use std::process::ExitCode;
+use std::rt::Env;
 
 // The most bytes of a ring's buffer.
 const BUFFER: usize = 2097152;
@@ -35,10 +40,17 @@ const DATA: usize = 262144;
 
 const OUTPUT: usize = 1048576;
 
+// Bytes of a block of the input.
+const INPUT: usize = 65536;
+
+// The most bytes of a file's name.
+const PATH: usize = 4096;
+
 // A proved loop has to end, and nothing says that the input does. So the loop counts its blocks down, from a number that no run
 // uses up.
-fn serve(
-    fd: i32,
+fn serve<R: Read>(
+    source: &mut R,
+    to: Stdout,
     input: &mut [u8],
     s: &mut [u32],
     w: &mut [u16],
@@ -49,7 +61,7 @@ fn serve(
     let mut p = input::start();
     let mut blocks = u64::MAX;
     while 0 < blocks {
-        p = input::block(fd, input, s, w, buffer, data, out, p);
+        p = input::block(source, to, input, s, w, buffer, data, out, p);
         if !p.open {
             return;
         }
@@ -77,15 +89,17 @@ fn output() -> [u8; OUTPUT]
 }
 
 // The state lies here, and is lent to all that is called.
-fn answer(fd: i32) {
-    let mut input = io::large_buffer();
+#[inline(never)]
+fn answer<R: Read>(source: &mut R, to: Stdout) {
+    let mut input = [0u8; INPUT];
     let mut starts = [0u32; LIMIT];
     let mut cells = [0u16; CELLS];
     let mut buffer = buffer();
     let mut data = data();
     let mut out = output();
     serve(
-        fd,
+        source,
+        to,
         &mut input,
         &mut starts,
         &mut cells,
@@ -95,22 +109,34 @@ fn answer(fd: i32) {
     );
 }
 
-fn main() {
-    if os::arg_count() < 2 {
-        answer(STDIN_FILENO);
-        return;
+// What stands on standard error where the commands cannot be read.
+fn failed(rt: &HostRuntime, name: &str, why: impl Display + Drop) -> ExitCode {
+    let _ = eprintln!(rt; "{name}: {why}");
+    ExitCode::FAILURE
+}
+
+// The commands of a file.
+fn replay(rt: &HostRuntime, path: &str) -> ExitCode {
+    match File::open(rt, path) {
+        Err(why) => failed(rt, path, why),
+        Ok(mut file) => {
+            answer(&mut file, rt.stdout());
+            ExitCode::SUCCESS
+        }
     }
-    let mut path = io::buffer();
-    let length = os::arg(1, &mut path);
-    if os::errno() != 0 {
-        os::fail(b"file");
-        return;
+}
+
+fn main(rt: HostRuntime) -> ExitCode {
+    let mut path = [0u8; PATH];
+    match rt.arg(1, &mut path) {
+        Err(FillError::NotPresent) => {
+            answer(&mut rt.stdin(), rt.stdout());
+            ExitCode::SUCCESS
+        }
+        Err(FillError::TooLong) => failed(&rt, "file", "File name too long"),
+        Ok(length) => match str::from_utf8(&path[..length]) {
+            Err(why) => failed(&rt, "file", why),
+            Ok(text) => replay(&rt, text),
+        },
     }
-    let fd = os::open_read(&path[..length]);
-    if fd < 0 {
-        os::fail(&path[..length]);
-        return;
-    }
-    answer(fd);
-    libc::close(fd);
 }

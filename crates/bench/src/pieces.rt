@@ -8,7 +8,7 @@ use psram::plan::Cut;
 use psram::{cut, list};
 
 // Where the direct pieces begin in the range, and how many bytes they have.
-#[derive(Drop)]
+#[derive(Clone, Copy)]
 pub struct Middle {
     pub start: usize,
     pub size: usize,

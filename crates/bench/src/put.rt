@@ -1,5 +1,5 @@
 // Text put behind what an output holds. An output that is full takes no more.
-ghost use Rattle.std.specs.Prelude.{◌+◌, ◌*◌, ◌≤◌, length};
+ghost use Rattle.std.specs.Prelude.{◌≡◌, ◌+◌, ◌*◌, ◌≤◌, decimal, drop, length};
 
 use crate::digit;
 
@@ -12,15 +12,30 @@ pub fn text(out: &mut [u8], at: usize, text: &[u8]) -> usize {
         return at;
     }
     let end = at + text.len();
-    bytes::copy(text, &mut out[at..end]);
+    out[at..end].copy_from_slice(text);
     end
 }
 
 // A number, decimal.
 pub fn number(out: &mut [u8], at: usize, n: usize) -> usize {
     let mut digits = [0u8; 20];
-    let k = io::decimal(n as u64, &mut digits);
-    text(out, at, &digits[..k])
+    let start = decimal(n as u64, &mut digits);
+    text(out, at, &digits[start..])
+}
+
+// A number's decimal digits, at the back of `digits`; answers where they begin.
+fn decimal(n: u64, digits: &mut [u8; 20]) -> usize
+    ensures { (result ≤ 20) × (drop result digits.new ≡ decimal n) }
+{
+    let mut rest = n;
+    let mut start: usize = 19;
+    while 10 <= rest {
+        digits[start] = b'0' + (rest % 10) as u8;
+        rest /= 10;
+        start -= 1;
+    }
+    digits[start] = b'0' + rest as u8;
+    start
 }
 
 fn digits(out: &mut [u8], at: usize, part: &[u8]) -> usize

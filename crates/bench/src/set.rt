@@ -115,6 +115,6 @@ pub fn bytes(buffer: &mut [u8], from: usize, part: &[u8], out: &mut [u8], at: us
         return say::wrong(out, at, Why::PastEnd);
     }
     let end = from + part.len();
-    bytes::copy(part, &mut buffer[from..end]);
+    buffer[from..end].copy_from_slice(part);
     say::ok(out, at)
 }

@@ -4,14 +4,14 @@ ghost use Rattle.std.specs.Prelude.{◌≡◌, min};
 use descriptors::record::Next;
 use descriptors::ring::Head;
 
-#[derive(Drop)]
+#[derive(Clone, Copy)]
 pub enum Ring {
     Nothing,
     Receive,
     Transmit,
 }
 
-#[derive(Drop)]
+#[derive(Clone, Copy)]
 pub struct Bench {
     pub ring: Ring,
     pub head: Head,

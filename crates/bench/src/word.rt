@@ -1,5 +1,5 @@
 // The words of a line: what stands between blanks. A blank is a space or a tab.
-ghost use Rattle.std.specs.Prelude.{◌≤◌, length};
+ghost use Rattle.std.specs.Prelude.{◌≡◌, ◌≤◌, ◌↔◌, IsTrue, length};
 
 const TAB: u8 = 9;
 
@@ -8,6 +8,13 @@ const TAB: u8 = 9;
 pub struct Word {
     pub start: usize,
     pub end: usize,
+}
+
+// Whether two words are the same.
+pub fn same(a: &[u8], b: &[u8]) -> bool
+    ensures { IsTrue result ↔ (a.now ≡ b.now) }
+{
+    a == b
 }
 
 fn is_blank(b: u8) -> bool {
