@@ -16,29 +16,75 @@ returns-in_default c =
     c.judge_split-answer.ensures ∙ ap judged (sym (refused-split a.dir (ring_of a.s.now a.w.now a.h) a.len c.judge_split-answer.result _ c.judge_split-answer.ensures c.in_default.is))
 
 pub lengths_ok-requires : goal.lengths_ok-requires
-lengths_ok-requires c = ((words ((c.args.s.now)) ((c.args.w.now)) ((split-records ((c.args.s.now)) ((c.args.w.now)) ((c.args.h)) ((c.args.len)) ((ready-split _ _ c.judge_split-answer.ensures c.in-Ready.is))))).whole, ((split-facts (ring_of ((c.args.s.now)) ((c.args.w.now)) ((c.args.h))) ((c.args.len)) ((ready-split _ _ c.judge_split-answer.ensures c.in-Ready.is))).parts.many))
+lengths_ok-requires c =
+    let st : List ℕ = c.args.s.now in
+    let ws : List ℕ = c.args.w.now in
+    let head : Head = c.args.h in
+    let size : ℕ = c.args.len in
+    let split-sound : split_sound (ring_of st ws head) size ≡ true = ready-split _ _ c.judge_split-answer.ensures c.in-Ready.is in
+    let held : are_records st ws ≡ true = split-records st ws head size split-sound in
+    let room : head.count ≤ limit = (split-facts (ring_of st ws head) size split-sound).parts.many in
+    ((words st ws held).whole, room)
 
 pub returns-then-not-lengths_ok : goal.returns-then-not-lengths_ok
 returns-then-not-lengths_ok c =
-    ap judged (sym (sound-stops ((c.args.dir)) ((c.args.s.now)) ((c.args.w.now)) ((c.args.h)) ((c.args.len)) ((ready-split _ _ c.judge_split-answer.ensures c.in-Ready.is)) _ c.lengths_ok.ensures (not-true _ c.if-not-lengths_ok.true-raw)))
+    let way : TransferDirection = c.args.dir in
+    let st : List ℕ = c.args.s.now in
+    let ws : List ℕ = c.args.w.now in
+    let head : Head = c.args.h in
+    let size : ℕ = c.args.len in
+    let split-sound : split_sound (ring_of st ws head) size ≡ true = ready-split _ _ c.judge_split-answer.ensures c.in-Ready.is in
+    ap judged (sym (sound-stops way st ws head size split-sound _ c.lengths_ok.ensures (not-true _ c.if-not-lengths_ok.true-raw)))
 
 pub nexts_ok-requires : goal.nexts_ok-requires
-nexts_ok-requires c = ((words ((c.args.s.now)) ((c.args.w.now)) ((split-records ((c.args.s.now)) ((c.args.w.now)) ((c.args.h)) ((c.args.len)) ((ready-split _ _ c.judge_split-answer.ensures c.in-Ready.is))))).whole, ((split-facts (ring_of ((c.args.s.now)) ((c.args.w.now)) ((c.args.h))) ((c.args.len)) ((ready-split _ _ c.judge_split-answer.ensures c.in-Ready.is))).parts.many))
+nexts_ok-requires c =
+    let st : List ℕ = c.args.s.now in
+    let ws : List ℕ = c.args.w.now in
+    let head : Head = c.args.h in
+    let size : ℕ = c.args.len in
+    let split-sound : split_sound (ring_of st ws head) size ≡ true = ready-split _ _ c.judge_split-answer.ensures c.in-Ready.is in
+    let held : are_records st ws ≡ true = split-records st ws head size split-sound in
+    let room : head.count ≤ limit = (split-facts (ring_of st ws head) size split-sound).parts.many in
+    ((words st ws held).whole, room)
 
 pub returns-then-not-nexts_ok : goal.returns-then-not-nexts_ok
 returns-then-not-nexts_ok c =
-    ap judged (sym ((sound-by ((c.args.dir)) ((c.args.s.now)) ((c.args.w.now)) ((c.args.h)) ((c.args.len)) ((ready-split _ _ c.judge_split-answer.ensures c.in-Ready.is)) _ _ (offset_ok ((c.args.dir)) (record_at [] ((c.args.w.now)) ((c.args.h)).descriptor_idx) ((c.args.h)).descriptor_offset) c.lengths_ok.ensures c.nexts_ok.ensures refl ∙ and-pass c.lengths_ok.result (c.nexts_ok.result && (ltb ((c.args.h)).descriptor_idx ((c.args.h)).count && (offset_ok ((c.args.dir)) (record_at [] ((c.args.w.now)) ((c.args.h)).descriptor_idx) ((c.args.h)).descriptor_offset))) (not-false _ c.if-not-lengths_ok.false-raw)) ∙ and-fail c.nexts_ok.result (ltb ((c.args.h)).descriptor_idx ((c.args.h)).count && (offset_ok ((c.args.dir)) (record_at [] ((c.args.w.now)) ((c.args.h)).descriptor_idx) ((c.args.h)).descriptor_offset)) (not-true _ c.if-not-nexts_ok.true-raw)))
+    let way : TransferDirection = c.args.dir in
+    let st : List ℕ = c.args.s.now in
+    let ws : List ℕ = c.args.w.now in
+    let head : Head = c.args.h in
+    let size : ℕ = c.args.len in
+    let split-sound : split_sound (ring_of st ws head) size ≡ true = ready-split _ _ c.judge_split-answer.ensures c.in-Ready.is in
+    ap judged (sym ((let it : sound way (ring_of st ws head) size ≡ (c.nexts_ok.result && (ltb head.descriptor_idx head.count && (offset_ok way (record_at [] ws head.descriptor_idx) head.descriptor_offset))) = sound-by way st ws head size split-sound _ _ (offset_ok way (record_at [] ws head.descriptor_idx) head.descriptor_offset) c.lengths_ok.ensures c.nexts_ok.ensures refl ∙ and-pass c.lengths_ok.result (c.nexts_ok.result && (ltb head.descriptor_idx head.count && (offset_ok way (record_at [] ws head.descriptor_idx) head.descriptor_offset))) (not-false _ c.if-not-lengths_ok.false-raw) in it) ∙ and-fail c.nexts_ok.result (ltb head.descriptor_idx head.count && (offset_ok way (record_at [] ws head.descriptor_idx) head.descriptor_offset)) (not-true _ c.if-not-nexts_ok.true-raw)))
 
 pub returns-then-n-i : goal.returns-then-n-i
 returns-then-n-i c =
-    ap judged (sym ((sound-by ((c.args.dir)) ((c.args.s.now)) ((c.args.w.now)) ((c.args.h)) ((c.args.len)) ((ready-split _ _ c.judge_split-answer.ensures c.in-Ready.is)) _ _ (offset_ok ((c.args.dir)) (record_at [] ((c.args.w.now)) ((c.args.h)).descriptor_idx) ((c.args.h)).descriptor_offset) c.lengths_ok.ensures c.nexts_ok.ensures refl ∙ and-pass c.lengths_ok.result (c.nexts_ok.result && (ltb ((c.args.h)).descriptor_idx ((c.args.h)).count && (offset_ok ((c.args.dir)) (record_at [] ((c.args.w.now)) ((c.args.h)).descriptor_idx) ((c.args.h)).descriptor_offset))) (not-false _ c.if-not-lengths_ok.false-raw)) ∙ and-pass c.nexts_ok.result (ltb ((c.args.h)).descriptor_idx ((c.args.h)).count && (offset_ok ((c.args.dir)) (record_at [] ((c.args.w.now)) ((c.args.h)).descriptor_idx) ((c.args.h)).descriptor_offset)) (not-false _ c.if-not-nexts_ok.false-raw) ∙ and-fail (ltb ((c.args.h)).descriptor_idx ((c.args.h)).count) (offset_ok ((c.args.dir)) (record_at [] ((c.args.w.now)) ((c.args.h)).descriptor_idx) ((c.args.h)).descriptor_offset) (le-ltb _ _ c.if-n-i.true)))
+    let way : TransferDirection = c.args.dir in
+    let st : List ℕ = c.args.s.now in
+    let ws : List ℕ = c.args.w.now in
+    let head : Head = c.args.h in
+    let size : ℕ = c.args.len in
+    let split-sound : split_sound (ring_of st ws head) size ≡ true = ready-split _ _ c.judge_split-answer.ensures c.in-Ready.is in
+    ap judged (sym ((let it : sound way (ring_of st ws head) size ≡ (c.nexts_ok.result && (ltb head.descriptor_idx head.count && (offset_ok way (record_at [] ws head.descriptor_idx) head.descriptor_offset))) = sound-by way st ws head size split-sound _ _ (offset_ok way (record_at [] ws head.descriptor_idx) head.descriptor_offset) c.lengths_ok.ensures c.nexts_ok.ensures refl ∙ and-pass c.lengths_ok.result (c.nexts_ok.result && (ltb head.descriptor_idx head.count && (offset_ok way (record_at [] ws head.descriptor_idx) head.descriptor_offset))) (not-false _ c.if-not-lengths_ok.false-raw) in it) ∙ and-pass c.nexts_ok.result (ltb head.descriptor_idx head.count && (offset_ok way (record_at [] ws head.descriptor_idx) head.descriptor_offset)) (not-false _ c.if-not-nexts_ok.false-raw) ∙ and-fail (ltb head.descriptor_idx head.count) (offset_ok way (record_at [] ws head.descriptor_idx) head.descriptor_offset) (le-ltb _ _ c.if-n-i.true)))
 
 pub returns-then-not-offset_ok : goal.returns-then-not-offset_ok
 returns-then-not-offset_ok c =
+    let way : TransferDirection = c.args.dir in
+    let st : List ℕ = c.args.s.now in
+    let ws : List ℕ = c.args.w.now in
+    let head : Head = c.args.h in
+    let size : ℕ = c.args.len in
+    let split-sound : split_sound (ring_of st ws head) size ≡ true = ready-split _ _ c.judge_split-answer.ensures c.in-Ready.is in
     let o : Bool = c.offset_ok.result in
-    ap judged (sym ((sound-by ((c.args.dir)) ((c.args.s.now)) ((c.args.w.now)) ((c.args.h)) ((c.args.len)) ((ready-split _ _ c.judge_split-answer.ensures c.in-Ready.is)) _ _ o c.lengths_ok.ensures c.nexts_ok.ensures c.offset_ok.ensures ∙ and-pass c.lengths_ok.result (c.nexts_ok.result && (ltb ((c.args.h)).descriptor_idx ((c.args.h)).count && o)) (not-false _ c.if-not-lengths_ok.false-raw)) ∙ and-pass c.nexts_ok.result (ltb ((c.args.h)).descriptor_idx ((c.args.h)).count && o) (not-false _ c.if-not-nexts_ok.false-raw) ∙ and-pass (ltb ((c.args.h)).descriptor_idx ((c.args.h)).count) o (lt-ltb _ _ c.if-n-i.false) ∙ not-true _ c.if-not-offset_ok.true-raw))
+    ap judged (sym ((let it : sound way (ring_of st ws head) size ≡ (c.nexts_ok.result && (ltb head.descriptor_idx head.count && o)) = sound-by way st ws head size split-sound _ _ o c.lengths_ok.ensures c.nexts_ok.ensures c.offset_ok.ensures ∙ and-pass c.lengths_ok.result (c.nexts_ok.result && (ltb head.descriptor_idx head.count && o)) (not-false _ c.if-not-lengths_ok.false-raw) in it) ∙ and-pass c.nexts_ok.result (ltb head.descriptor_idx head.count && o) (not-false _ c.if-not-nexts_ok.false-raw) ∙ and-pass (ltb head.descriptor_idx head.count) o (lt-ltb _ _ c.if-n-i.false) ∙ not-true _ c.if-not-offset_ok.true-raw))
 
 pub returns : goal.returns
 returns c =
+    let way : TransferDirection = c.args.dir in
+    let st : List ℕ = c.args.s.now in
+    let ws : List ℕ = c.args.w.now in
+    let head : Head = c.args.h in
+    let size : ℕ = c.args.len in
+    let split-sound : split_sound (ring_of st ws head) size ≡ true = ready-split _ _ c.judge_split-answer.ensures c.in-Ready.is in
     let o : Bool = c.offset_ok.result in
-    ap judged (sym ((sound-by ((c.args.dir)) ((c.args.s.now)) ((c.args.w.now)) ((c.args.h)) ((c.args.len)) ((ready-split _ _ c.judge_split-answer.ensures c.in-Ready.is)) _ _ o c.lengths_ok.ensures c.nexts_ok.ensures c.offset_ok.ensures ∙ and-pass c.lengths_ok.result (c.nexts_ok.result && (ltb ((c.args.h)).descriptor_idx ((c.args.h)).count && o)) (not-false _ c.if-not-lengths_ok.false-raw)) ∙ and-pass c.nexts_ok.result (ltb ((c.args.h)).descriptor_idx ((c.args.h)).count && o) (not-false _ c.if-not-nexts_ok.false-raw) ∙ and-pass (ltb ((c.args.h)).descriptor_idx ((c.args.h)).count) o (lt-ltb _ _ c.if-n-i.false) ∙ not-false _ c.if-not-offset_ok.false-raw))
+    ap judged (sym ((let it : sound way (ring_of st ws head) size ≡ (c.nexts_ok.result && (ltb head.descriptor_idx head.count && o)) = sound-by way st ws head size split-sound _ _ o c.lengths_ok.ensures c.nexts_ok.ensures c.offset_ok.ensures ∙ and-pass c.lengths_ok.result (c.nexts_ok.result && (ltb head.descriptor_idx head.count && o)) (not-false _ c.if-not-lengths_ok.false-raw) in it) ∙ and-pass c.nexts_ok.result (ltb head.descriptor_idx head.count && o) (not-false _ c.if-not-nexts_ok.false-raw) ∙ and-pass (ltb head.descriptor_idx head.count) o (lt-ltb _ _ c.if-n-i.false) ∙ not-false _ c.if-not-offset_ok.false-raw))

@@ -17,34 +17,82 @@ returns-in_default c =
 
 pub returns-then-not-are_records : goal.returns-then-not-are_records
 returns-then-not-are_records c =
-    ap judged (sym (split-no-records ((c.args.s.now)) ((c.args.w.now)) ((c.args.h)) ((c.args.len)) (sym c.are_records.ensures ∙ not-true _ c.if-not-are_records.true-raw) ((parts-known _ _ _ _ (sym c.split_of-parts.ensures ∙ c.in-Parts.is))).facts))
+    let st : List ℕ = c.args.s.now in
+    let ws : List ℕ = c.args.w.now in
+    let head : Head = c.args.h in
+    let size : ℕ = c.args.len in
+    let known : Known head.count size c.in-Parts.chunk c.in-Parts.rest = parts-known _ _ _ _ (sym c.split_of-parts.ensures ∙ c.in-Parts.is) in
+    ap judged (sym (split-no-records st ws head size (sym c.are_records.ensures ∙ not-true _ c.if-not-are_records.true-raw) known.facts))
 
 pub starts_ok-requires : goal.starts_ok-requires
 starts_ok-requires c =
-    ((words ((c.args.s.now)) ((c.args.w.now)) ((sym c.are_records.ensures ∙ not-false _ c.if-not-are_records.false-raw))).starts, ((parts-known _ _ _ _ (sym c.split_of-parts.ensures ∙ c.in-Parts.is))).facts.many, omega (arith, ((parts-known _ _ _ _ (sym c.split_of-parts.ensures ∙ c.in-Parts.is))).chunk-is, ((parts-known _ _ _ _ (sym c.split_of-parts.ensures ∙ c.in-Parts.is))).facts.chunk))
+    let st : List ℕ = c.args.s.now in
+    let ws : List ℕ = c.args.w.now in
+    let head : Head = c.args.h in
+    let size : ℕ = c.args.len in
+    let known : Known head.count size c.in-Parts.chunk c.in-Parts.rest = parts-known _ _ _ _ (sym c.split_of-parts.ensures ∙ c.in-Parts.is) in
+    let held : are_records st ws ≡ true = sym c.are_records.ensures ∙ not-false _ c.if-not-are_records.false-raw in
+    ((words st ws held).starts, known.facts.many, omega (arith, known.chunk-is, known.facts.chunk))
 
 pub returns-then-not-starts_ok : goal.returns-then-not-starts_ok
 returns-then-not-starts_ok c =
-    ap judged (sym (split-stops ((c.args.s.now)) ((c.args.w.now)) ((c.args.h)) ((c.args.len)) _ _ ((parts-known _ _ _ _ (sym c.split_of-parts.ensures ∙ c.in-Parts.is))) ((sym c.are_records.ensures ∙ not-false _ c.if-not-are_records.false-raw)) _ c.starts_ok.ensures (not-true _ c.if-not-starts_ok.true-raw)))
+    let st : List ℕ = c.args.s.now in
+    let ws : List ℕ = c.args.w.now in
+    let head : Head = c.args.h in
+    let size : ℕ = c.args.len in
+    let known : Known head.count size c.in-Parts.chunk c.in-Parts.rest = parts-known _ _ _ _ (sym c.split_of-parts.ensures ∙ c.in-Parts.is) in
+    let held : are_records st ws ≡ true = sym c.are_records.ensures ∙ not-false _ c.if-not-are_records.false-raw in
+    ap judged (sym (split-stops st ws head size _ _ known held _ c.starts_ok.ensures (not-true _ c.if-not-starts_ok.true-raw)))
 
 pub overflow_add-chunk : goal.overflow_add-chunk
 overflow_add-chunk c =
-    let k = (parts-known _ _ _ _ (sym c.split_of-parts.ensures ∙ c.in-Parts.is)) in
-    omega (arith, k.chunk-is, k.rest-is, k.facts.last)
+    let head : Head = c.args.h in
+    let size : ℕ = c.args.len in
+    let known : Known head.count size c.in-Parts.chunk c.in-Parts.rest = parts-known _ _ _ _ (sym c.split_of-parts.ensures ∙ c.in-Parts.is) in
+    omega (arith, known.chunk-is, known.rest-is, known.facts.last)
 
 pub sizes_ok-requires : goal.sizes_ok-requires
 sizes_ok-requires c =
-    let k = (parts-known _ _ _ _ (sym c.split_of-parts.ensures ∙ c.in-Parts.is)) in
-    ((words ((c.args.s.now)) ((c.args.w.now)) ((sym c.are_records.ensures ∙ not-false _ c.if-not-are_records.false-raw))).whole, omega (arith, k.facts.few), k.facts.many, omega (arith, k.chunk-is, k.facts.chunk), omega (arith, k.chunk-is, k.rest-is, k.facts.last))
+    let st : List ℕ = c.args.s.now in
+    let ws : List ℕ = c.args.w.now in
+    let head : Head = c.args.h in
+    let size : ℕ = c.args.len in
+    let known : Known head.count size c.in-Parts.chunk c.in-Parts.rest = parts-known _ _ _ _ (sym c.split_of-parts.ensures ∙ c.in-Parts.is) in
+    let held : are_records st ws ≡ true = sym c.are_records.ensures ∙ not-false _ c.if-not-are_records.false-raw in
+    ((words st ws held).whole, omega (arith, known.facts.few), known.facts.many, omega (arith, known.chunk-is, known.facts.chunk), omega (arith, known.chunk-is, known.rest-is, known.facts.last))
 
 pub returns-then-not-sizes_ok : goal.returns-then-not-sizes_ok
 returns-then-not-sizes_ok c =
-    ap judged (sym ((split_by ((c.args.s.now)) ((c.args.w.now)) ((c.args.h)) ((c.args.len)) _ _ ((parts-known _ _ _ _ (sym c.split_of-parts.ensures ∙ c.in-Parts.is))) ((sym c.are_records.ensures ∙ not-false _ c.if-not-are_records.false-raw)) _ _ c.starts_ok.ensures c.sizes_ok.ensures ∙ and-pass c.starts_ok.result (c.sizes_ok.result && leb ((c.args.h)).pre_filled ((c.args.len))) (not-false _ c.if-not-starts_ok.false-raw)) ∙ and-fail c.sizes_ok.result (leb ((c.args.h)).pre_filled ((c.args.len))) (not-true _ c.if-not-sizes_ok.true-raw)))
+    let head : Head = c.args.h in
+    let size : ℕ = c.args.len in
+    let st : List ℕ = c.args.s.now in
+    let known : Known head.count size c.in-Parts.chunk c.in-Parts.rest = parts-known _ _ _ _ (sym c.split_of-parts.ensures ∙ c.in-Parts.is) in
+    let ws : List ℕ = c.args.w.now in
+    let held : are_records st ws ≡ true = sym c.are_records.ensures ∙ not-false _ c.if-not-are_records.false-raw in
+    let tested : split_sound (ring_of st ws head) size ≡ (c.sizes_ok.result && leb head.pre_filled size) = split_by st ws head size _ _ known held _ _ c.starts_ok.ensures c.sizes_ok.ensures
+    ∙ and-pass c.starts_ok.result (c.sizes_ok.result && leb head.pre_filled size) (not-false _ c.if-not-starts_ok.false-raw) in
+    ap judged (sym (tested ∙ and-fail c.sizes_ok.result (leb head.pre_filled size) (not-true _ c.if-not-sizes_ok.true-raw)))
 
 pub returns-then-len-h : goal.returns-then-len-h
 returns-then-len-h c =
-    ap judged (sym ((split_by ((c.args.s.now)) ((c.args.w.now)) ((c.args.h)) ((c.args.len)) _ _ ((parts-known _ _ _ _ (sym c.split_of-parts.ensures ∙ c.in-Parts.is))) ((sym c.are_records.ensures ∙ not-false _ c.if-not-are_records.false-raw)) _ _ c.starts_ok.ensures c.sizes_ok.ensures ∙ and-pass c.starts_ok.result (c.sizes_ok.result && leb ((c.args.h)).pre_filled ((c.args.len))) (not-false _ c.if-not-starts_ok.false-raw)) ∙ and-pass c.sizes_ok.result (leb ((c.args.h)).pre_filled ((c.args.len))) (not-false _ c.if-not-sizes_ok.false-raw) ∙ lt-leb _ _ c.if-len-h.true))
+    let head : Head = c.args.h in
+    let size : ℕ = c.args.len in
+    let st : List ℕ = c.args.s.now in
+    let known : Known head.count size c.in-Parts.chunk c.in-Parts.rest = parts-known _ _ _ _ (sym c.split_of-parts.ensures ∙ c.in-Parts.is) in
+    let ws : List ℕ = c.args.w.now in
+    let held : are_records st ws ≡ true = sym c.are_records.ensures ∙ not-false _ c.if-not-are_records.false-raw in
+    let tested : split_sound (ring_of st ws head) size ≡ (c.sizes_ok.result && leb head.pre_filled size) = split_by st ws head size _ _ known held _ _ c.starts_ok.ensures c.sizes_ok.ensures
+    ∙ and-pass c.starts_ok.result (c.sizes_ok.result && leb head.pre_filled size) (not-false _ c.if-not-starts_ok.false-raw) in
+    ap judged (sym (tested ∙ and-pass c.sizes_ok.result (leb head.pre_filled size) (not-false _ c.if-not-sizes_ok.false-raw) ∙ lt-leb _ _ c.if-len-h.true))
 
 pub returns : goal.returns
 returns c =
-    ap judged (sym ((split_by ((c.args.s.now)) ((c.args.w.now)) ((c.args.h)) ((c.args.len)) _ _ ((parts-known _ _ _ _ (sym c.split_of-parts.ensures ∙ c.in-Parts.is))) ((sym c.are_records.ensures ∙ not-false _ c.if-not-are_records.false-raw)) _ _ c.starts_ok.ensures c.sizes_ok.ensures ∙ and-pass c.starts_ok.result (c.sizes_ok.result && leb ((c.args.h)).pre_filled ((c.args.len))) (not-false _ c.if-not-starts_ok.false-raw)) ∙ and-pass c.sizes_ok.result (leb ((c.args.h)).pre_filled ((c.args.len))) (not-false _ c.if-not-sizes_ok.false-raw) ∙ le-leb _ _ c.if-len-h.false))
+    let head : Head = c.args.h in
+    let size : ℕ = c.args.len in
+    let st : List ℕ = c.args.s.now in
+    let known : Known head.count size c.in-Parts.chunk c.in-Parts.rest = parts-known _ _ _ _ (sym c.split_of-parts.ensures ∙ c.in-Parts.is) in
+    let ws : List ℕ = c.args.w.now in
+    let held : are_records st ws ≡ true = sym c.are_records.ensures ∙ not-false _ c.if-not-are_records.false-raw in
+    let tested : split_sound (ring_of st ws head) size ≡ (c.sizes_ok.result && leb head.pre_filled size) = split_by st ws head size _ _ known held _ _ c.starts_ok.ensures c.sizes_ok.ensures
+    ∙ and-pass c.starts_ok.result (c.sizes_ok.result && leb head.pre_filled size) (not-false _ c.if-not-starts_ok.false-raw) in
+    ap judged (sym (tested ∙ and-pass c.sizes_ok.result (leb head.pre_filled size) (not-false _ c.if-not-sizes_ok.false-raw) ∙ le-leb _ _ c.if-len-h.false))
