@@ -1,7 +1,1 @@
-pub mod Good
-pub mod Take
-pub mod Fill
-pub mod Start
 pub mod Peek
-pub mod Reach
-pub mod Theorem

@@ -1,13 +1,5 @@
 pub mod Turned
 pub mod Blocks
-pub mod Prefilling
 pub mod Marked
 pub mod Prepared
-pub mod Bytes
-pub mod Accepting
-pub mod Writing
-pub mod Calls
 pub mod Sending
-pub mod Trace
-pub mod Start
-pub mod Theorem

@@ -21,7 +21,7 @@ use Rattle.rx_stream.specs.declared.Ended.TheVariants as ended
 use Rattle.rx_stream.specs.Receive.{prepare_of, available_of, flat_bytes, flat_eof, peek_of, peek_eof_of, consume_of, pop_of, popped_over}
 use Rattle.device.specs.Device.{receive_of, receive_into}
 use Rattle.both_ends.specs.Demand3.{World, run, built, prepared, RxAction, pop, fill, rx_step, reached, Receive}
-use Rattle.both_ends.specs.Theorem.{demand3}
+use Rattle.both_ends.proofs.Theorem.{demand3}
 
 -- lent: records and bytes that hold anything
 abbrev lent : DmaDescriptor

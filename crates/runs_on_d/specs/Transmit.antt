@@ -15,7 +15,7 @@ use Rattle.descriptors.specs.declared.refusal.Done.TheVariants as done
 use Rattle.tx_stream.specs.Transmit.{prefill_of, prefill_into, prefill_offer_of, prefill_commit_of, reached, filled_to, cut_at, marked_ready, prepare_of, push_of, push_into, offer_of, advance_of, commit_of}
 use Rattle.device.specs.Device.{transmit_of, transmit_over}
 use Rattle.both_ends.specs.Demand3.{World, run, built, prepared, Prefill, pre_push, pre_write, pre_commit, prefill, TxAction, push, commit, write, send, tx_step, dma_data, queued_in, pending_in, Transmit}
-use Rattle.both_ends.specs.Theorem.{demand3}
+use Rattle.both_ends.proofs.Theorem.{demand3}
 
 -- records as they may be lent
 abbrev lent : DmaDescriptor

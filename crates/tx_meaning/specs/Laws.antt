@@ -14,9 +14,9 @@ use Rattle.ring_order.specs.Shape.{Sound, sound-of, of-sound}
 use Rattle.tx_stream.specs.Transmit.{write_at, offered, offer_of, push_of, push_into, accepted_up_to, advance_of, commit_of}
 use Rattle.both_ends.specs.Demand3.{queued_in, pending_in}
 use Rattle.both_ends.specs.transmit.Turned.{turned}
-use Rattle.both_ends.specs.transmit.Accepting.{advanced-sound, advanced-tally, advanced-outgoing, advanced-waits}
+use Rattle.both_ends.proofs.transmit.Accepting.{advanced-sound, advanced-tally, advanced-outgoing, advanced-waits}
 use Rattle.sound_ring.specs.Laws.{as_many}
-use Rattle.both_ends.specs.transmit.Calls.{Kept, accepted-up-to, offer-length, offer-kept, push-is, push-sound, push-outgoing, push-elsewhere, taken-length}
+use Rattle.both_ends.proofs.transmit.Calls.{Kept, accepted-up-to, offer-length, offer-kept, push-is, push-sound, push-outgoing, push-elsewhere, taken-length}
 
 -- a call that answered k, and the ring r' and buffer b' that it left of r and b: the bytes `new` were accepted
 pub record Accepted (r : Ring) (b : List ℕ) (o : Outcome Counted) (b' new : List ℕ) : Type 0 where

@@ -1,7 +1,6 @@
 -- How the code's answers are read from the rules' outcomes, and what the parts of the calls do to the words.
 use Rattle.std.specs.Prelude.{ℕ, ◌+◌, ◌-◌, ◌%◌, ◌^◌, true, cond, List, [], length, ◌==◌, nat_le}
 use Rattle.descriptors.specs.Record.{limit, up_to}
-use Rattle.descriptors.specs.Place.{turns}
 use Rattle.descriptors.specs.Cells.{cell, record_at, put_length, put_eof, put_owner, put_next}
 use Rattle.descriptors.specs.Stores.{hand_all}
 use Rattle.descriptors.specs.Ring.{Outcome, Ring, head_of, sound, split_sound}

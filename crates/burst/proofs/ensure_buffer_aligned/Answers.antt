@@ -1,7 +1,6 @@
 use Rattle.burst.specs.Burst.{aligned_of}
 use mathlib.Core.Path.{sym}
 use borrow.Author.Tests.{eq-eqb, ne_eqb}
-use borrow.Author.Rules.{rules}
 use Rattle.burst.proofs.ensure_buffer_aligned.Goals as goal
 
 pub returns-then-address-alignment-ne0 : goal.returns-then-address-alignment-ne0

@@ -3,7 +3,6 @@ use Rattle.burst.specs.laws.Powers.{alignment-pos}
 use Rattle.burst.specs.Burst.{is_good, compatible_of}
 use mathlib.Core.Path.{◌≡◌, sym, ◌∙◌}
 use borrow.Author.Tests.{eq-eqb, ne_eqb, not-true, not-false}
-use borrow.Author.Rules.{rules}
 use Rattle.burst.proofs.ensure_buffer_compatible.Goals as goal
 
 pub returns-then-not-is_good : goal.returns-then-not-is_good

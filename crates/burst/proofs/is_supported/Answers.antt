@@ -4,7 +4,6 @@ use Rattle.burst.specs.Burst.{supported}
 use Rattle.descriptors.specs.Record.{top}
 use mathlib.Core.Path.{sym, ◌∙◌}
 use borrow.Author.Tests.{le-leb, lt-leb}
-use borrow.Author.Rules.{rules}
 use Rattle.burst.proofs.is_supported.Goals as goal
 
 pub returns-then-end : goal.returns-then-end

@@ -1,4 +1,3 @@
-use borrow.Author.Rules.{rules}
 use Rattle.by_value.proofs.value_rx_available.Goals as goal
 
 pub returns : goal.returns

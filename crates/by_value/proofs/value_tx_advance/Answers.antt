@@ -1,4 +1,3 @@
-use borrow.Author.Rules.{rules}
 use Rattle.by_value.proofs.value_tx_advance.Goals as goal
 
 pub returns : goal.returns

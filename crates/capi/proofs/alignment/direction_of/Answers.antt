@@ -1,5 +1,4 @@
 use Rattle.capi.specs.laws.Words.{direction-some}
-use borrow.Author.Rules.{rules}
 use Rattle.capi.proofs.alignment.direction_of.Goals as goal
 
 pub returns : goal.returns

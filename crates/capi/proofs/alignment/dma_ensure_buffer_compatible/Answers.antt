@@ -4,7 +4,6 @@ use Rattle.burst.specs.Burst.{compatible_of}
 use Rattle.descriptors.specs.declared.record.TransferDirection.{TransferDirection}
 use borrow.Author.Tests.{le-leb, lt-leb}
 use mathlib.Core.Path.{sym, ap, ◌∙◌}
-use borrow.Author.Rules.{rules}
 use Rattle.capi.proofs.alignment.dma_ensure_buffer_compatible.Goals as goal
 
 pub returns-then-direction-gt1 : goal.returns-then-direction-gt1

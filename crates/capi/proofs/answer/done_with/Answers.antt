@@ -1,6 +1,5 @@
 use Rattle.capi.specs.Answer.{done_said}
 use mathlib.Core.Path.{sym, ap}
-use borrow.Author.Rules.{rules}
 use Rattle.capi.proofs.answer.done_with.Goals as goal
 
 pub returns-in-Ready : goal.returns-in-Ready

@@ -4,7 +4,6 @@ use lib.ListN.{length-set}
 use native.Mathlib.Omega.{arith}
 use borrow.Author.Tests.{le-leb, lt-leb}
 use mathlib.Core.Path.{sym}
-use borrow.Author.Rules.{rules}
 use Rattle.capi.proofs.answer.store.Goals as goal
 
 pub returns-then-answer-lt-WORDS : goal.returns-then-answer-lt-WORDS

@@ -1,6 +1,5 @@
 use Rattle.capi.specs.Answer.{took_said}
 use mathlib.Core.Path.{sym, ap}
-use borrow.Author.Rules.{rules}
 use Rattle.capi.proofs.answer.took.Goals as goal
 
 pub returns-in-Bytes : goal.returns-in-Bytes

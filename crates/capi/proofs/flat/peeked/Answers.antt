@@ -16,7 +16,6 @@ use Prim.Native.Nat.{◌-◌}
 use native.Mathlib.Omega.{arith}
 use borrow.Author.Tests.{le-leb}
 use mathlib.Core.Path.{◌≡◌, sym, ap, ◌∙◌}
-use borrow.Author.Rules.{rules}
 use Rattle.capi.proofs.flat.peeked.Goals as goal
 
 pub returns-in_default : goal.returns-in_default

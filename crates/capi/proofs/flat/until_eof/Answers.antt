@@ -8,7 +8,6 @@ use Rattle.rx_stream.specs.laws.Takes.{known, held}
 use mathlib.Core.List.{[]}
 use Prim.Native.Nat.{◌-◌}
 use mathlib.Core.Path.{sym, ap, ◌∙◌}
-use borrow.Author.Rules.{rules}
 use Rattle.capi.proofs.flat.until_eof.Goals as goal
 
 pub returns-in_default : goal.returns-in_default

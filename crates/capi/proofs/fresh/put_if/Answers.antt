@@ -1,7 +1,6 @@
 use Rattle.capi.specs.New.{head_if}
 use Rattle.descriptors.specs.declared.refusal.Done.{Done}
 use mathlib.Core.Path.{sym, ap, ◌∙◌}
-use borrow.Author.Rules.{rules}
 use Rattle.capi.proofs.fresh.put_if.Goals as goal
 
 pub returns-in-Ready : goal.returns-in-Ready

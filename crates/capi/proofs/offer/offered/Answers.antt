@@ -5,7 +5,6 @@ use Rattle.descriptors.specs.Ring.{ring_of}
 use Prim.Native.Nat.{ℕ, ◌+◌, ◌-◌, min}
 use native.Mathlib.Omega.{arith}
 use mathlib.Core.Path.{sym, ap, ◌∙◌}
-use borrow.Author.Rules.{rules}
 use Rattle.capi.proofs.offer.offered.Goals as goal
 
 pub overflow_add-at : goal.overflow_add-at

@@ -4,7 +4,6 @@ use Rattle.descriptors.specs.laws.Sound.{split-facts}
 use Rattle.descriptors.specs.Ring.{ring_of}
 use native.Mathlib.Omega.{arith}
 use mathlib.Core.Path.{sym, ◌∙◌}
-use borrow.Author.Rules.{rules}
 use Rattle.capi.proofs.offer.prefill_offered.Goals as goal
 
 pub overflow_sub-result : goal.overflow_sub-result

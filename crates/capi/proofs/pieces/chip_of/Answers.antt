@@ -1,5 +1,4 @@
 use Rattle.capi.specs.laws.Words.{chip-some}
-use borrow.Author.Rules.{rules}
 use Rattle.capi.proofs.pieces.chip_of.Goals as goal
 
 pub returns : goal.returns

@@ -1,7 +1,6 @@
 use Rattle.capi.specs.Pieces.{piece_ready}
 use borrow.Author.Tests.{le-leb, lt-leb}
 use mathlib.Core.Path.{sym, ◌∙◌}
-use borrow.Author.Rules.{rules}
 use Rattle.capi.proofs.pieces.piece_ready.Goals as goal
 
 pub returns-then-chip-gt1 : goal.returns-then-chip-gt1

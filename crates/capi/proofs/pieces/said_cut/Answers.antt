@@ -1,6 +1,5 @@
 use Rattle.capi.specs.Pieces.{cut_said}
 use mathlib.Core.Path.{sym, ap}
-use borrow.Author.Rules.{rules}
 use Rattle.capi.proofs.pieces.said_cut.Goals as goal
 
 pub returns-in-Parts : goal.returns-in-Parts

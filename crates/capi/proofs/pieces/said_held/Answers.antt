@@ -1,6 +1,5 @@
 use Rattle.capi.specs.Pieces.{held_said}
 use mathlib.Core.Path.{sym, ap}
-use borrow.Author.Rules.{rules}
 use Rattle.capi.proofs.pieces.said_held.Goals as goal
 
 pub returns-in-InStore : goal.returns-in-InStore

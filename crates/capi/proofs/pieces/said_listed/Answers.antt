@@ -1,6 +1,5 @@
 use Rattle.capi.specs.Pieces.{listed_said}
 use mathlib.Core.Path.{sym, ap}
-use borrow.Author.Rules.{rules}
 use Rattle.capi.proofs.pieces.said_listed.Goals as goal
 
 pub returns-in-Bytes : goal.returns-in-Bytes

@@ -1,7 +1,6 @@
 use Rattle.capi.specs.Steps.{step_ready}
 use borrow.Author.Tests.{le-leb, lt-leb, not-true, not-false}
 use mathlib.Core.Path.{sym, ◌∙◌}
-use borrow.Author.Rules.{rules}
 use Rattle.capi.proofs.steps.step_ready.Goals as goal
 
 pub returns-then-eof-gt1 : goal.returns-then-eof-gt1

@@ -4,11 +4,10 @@ use Rattle.capi.specs.laws.Lent.{head-lent, said-lent}
 use Rattle.capi.specs.Answer.{has_room, counted_said}
 use Rattle.descriptors.specs.Ring.{Ring, head_of}
 use mathlib.Core.Path.{ap, ◌∙◌}
-use borrow.Author.Rules.{rules}
 use Rattle.capi.proofs.transmit.dma_tx_commit_prefill.Goals as goal
 
 pub returns : goal.returns
 returns c =
     let a = c.args in
     let both = said-lent a.starts.now a.cells.now a.head.now (has_room a.answer.now) c.has_room-ready.result c.head_of-h.result c.has_room-ready.ensures c.head_of-h.ensures (λ (x : Ring). counted_said (prefill_commit_of x a.len a.k).answer) a.answer.now _ _ _ (c.counted.ensures ∙ ap (λ (o : Accepting). counted_said o.answer) c.prefill_commit_in-m.ensures) c.put.ensures.value c.put.ensures.answer_after in
-    record { head_after = head-lent a.starts.now a.cells.now a.head.now (has_room a.answer.now) c.has_room-ready.result c.head_of-h.result c.has_room-ready.ensures c.head_of-h.ensures (λ (x : Ring). head_of (prefill_commit_of x a.len a.k).ring) _ _ (ap (λ (o : Accepting). o.head) c.prefill_commit_in-m.ensures) c.put_head.ensures; value = both.0; answer_after = both.1; }
+    record { head_after = head-lent a.starts.now a.cells.now a.head.now (has_room a.answer.now) c.has_room-ready.result c.head_of-h.result c.has_room-ready.ensures c.head_of-h.ensures (λ (x : Ring). head_of (prefill_commit_of x a.len a.k).ring) _ _ (ap (λ (o : Accepting). o.head) c.prefill_commit_in-m.ensures) c.put_head.ensures; value = both.0; answer_after = both.1 }

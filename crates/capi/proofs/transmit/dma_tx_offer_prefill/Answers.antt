@@ -2,11 +2,10 @@ use Rattle.capi.specs.Parts.{prefill_offer_said}
 use Rattle.capi.specs.laws.Lent.{said-lent}
 use Rattle.capi.specs.Answer.{has_room}
 use Rattle.descriptors.specs.Ring.{Ring}
-use borrow.Author.Rules.{rules}
 use Rattle.capi.proofs.transmit.dma_tx_offer_prefill.Goals as goal
 
 pub returns : goal.returns
 returns c =
     let a = c.args in
     let both = said-lent a.starts.now a.cells.now a.head.now (has_room a.answer.now) c.has_room-ready.result c.head_of-h.result c.has_room-ready.ensures c.head_of-h.ensures (λ (x : Ring). prefill_offer_said x a.len) a.answer.now _ _ _ c.prefill_offered-said.ensures c.put.ensures.value c.put.ensures.answer_after in
-    record { value = both.0; answer_after = both.1; }
+    record { value = both.0; answer_after = both.1 }

@@ -6,9 +6,8 @@ use Rattle.descriptors.specs.Cells.{cells_now}
 use mathlib.Core.Bool.{true}
 use Rattle.descriptors.specs.Ring.{Ring, head_of}
 use mathlib.Core.Path.{ap, ◌∙◌, refl}
-use borrow.Author.Rules.{rules}
 use Rattle.capi.proofs.transmit.dma_tx_prepare.Goals as goal
 
 pub returns : goal.returns
 returns c =
-    let a = c.args in record { cells_after = lent a.starts.now a.cells.now a.head.now true true c.head_of-h.result refl c.head_of-h.ensures (λ (x : Ring). cells_now a.starts.now a.cells.now (prepare_of x a.len).ring.descriptors) _ c.prepare_in-m.ensures.w_after; head_after = head-lent a.starts.now a.cells.now a.head.now true true c.head_of-h.result refl c.head_of-h.ensures (λ (x : Ring). head_of (prepare_of x a.len).ring) _ _ (ap (λ (o : Headed). o.head) c.prepare_in-m.ensures.value) c.put_head.ensures; value = c.done.ensures ∙ lent a.starts.now a.cells.now a.head.now true true c.head_of-h.result refl c.head_of-h.ensures (λ (x : Ring). done_number (prepare_of x a.len).answer) _ (ap (λ (o : Headed). done_number o.answer) c.prepare_in-m.ensures.value); }
+    let a = c.args in record { cells_after = lent a.starts.now a.cells.now a.head.now true true c.head_of-h.result refl c.head_of-h.ensures (λ (x : Ring). cells_now a.starts.now a.cells.now (prepare_of x a.len).ring.descriptors) _ c.prepare_in-m.ensures.w_after; head_after = head-lent a.starts.now a.cells.now a.head.now true true c.head_of-h.result refl c.head_of-h.ensures (λ (x : Ring). head_of (prepare_of x a.len).ring) _ _ (ap (λ (o : Headed). o.head) c.prepare_in-m.ensures.value) c.put_head.ensures; value = c.done.ensures ∙ lent a.starts.now a.cells.now a.head.now true true c.head_of-h.result refl c.head_of-h.ensures (λ (x : Ring). done_number (prepare_of x a.len).answer) _ (ap (λ (o : Headed). done_number o.answer) c.prepare_in-m.ensures.value) }

@@ -1,7 +1,6 @@
 use Rattle.capi.specs.Words.{is_head}
 use borrow.Author.Tests.{eq-eqb, ne_eqb}
 use mathlib.Core.Path.{sym}
-use borrow.Author.Rules.{rules}
 use Rattle.capi.proofs.words.is_head.Goals as goal
 
 pub returns-then-head-ne-WORDS : goal.returns-then-head-ne-WORDS

@@ -1,7 +1,6 @@
 use Rattle.capi.specs.Words.{is_place}
 use borrow.Author.Tests.{eq-eqb, ne_eqb}
 use mathlib.Core.Path.{sym}
-use borrow.Author.Rules.{rules}
 use Rattle.capi.proofs.words.is_place.Goals as goal
 
 pub returns-then-device-ne1 : goal.returns-then-device-ne1

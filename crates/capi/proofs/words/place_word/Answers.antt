@@ -1,6 +1,5 @@
 use Rattle.descriptors.specs.Cells.{next_cell}
 use mathlib.Core.Path.{sym, ap}
-use borrow.Author.Rules.{rules}
 use Rattle.capi.proofs.words.place_word.Goals as goal
 
 pub returns-in-At : goal.returns-in-At

@@ -4,7 +4,6 @@ use lib.ListN.{length-set}
 use native.Mathlib.Omega.{arith}
 use borrow.Author.Tests.{eq-eqb, ne_eqb}
 use mathlib.Core.Path.{sym, ◌∙◌}
-use borrow.Author.Rules.{rules}
 use Rattle.capi.proofs.words.put.Goals as goal
 
 pub returns-then-head-ne-WORDS : goal.returns-then-head-ne-WORDS

@@ -2,7 +2,6 @@ use Rattle.capi.specs.laws.Words.{head-made}
 use Rattle.capi.specs.Words.{head_now}
 use borrow.Author.Tests.{not-true, not-false}
 use mathlib.Core.Path.{sym, ◌∙◌}
-use borrow.Author.Rules.{rules}
 use Rattle.capi.proofs.words.put_head.Goals as goal
 
 pub returns-then-not-ready : goal.returns-then-not-ready

@@ -5,7 +5,6 @@ use mathlib.Core.List.{[], ◌∷◌}
 use native.Mathlib.Omega.{arith}
 use borrow.Author.Tests.{not-true, not-false}
 use mathlib.Core.Path.{sym, ap, ◌∙◌}
-use borrow.Author.Rules.{rules}
 use Rattle.capi.proofs.words.put_place.Goals as goal
 
 pub returns-then-not-ready : goal.returns-then-not-ready

@@ -1,5 +1,5 @@
 use lib.ListN.{get_or-eq_default}
-use Rattle.std.proofs.Common.{sym, ◌∙◌, arith, rules, le-ltb, lt-ltb}
+use Rattle.std.proofs.Common.{sym, ◌∙◌, arith, le-ltb, lt-ltb}
 use Rattle.descriptors.proofs.cells.cell.Goals as goal
 
 pub returns-then-block-ge-BLOCKS : goal.returns-then-block-ge-BLOCKS

@@ -1,4 +1,3 @@
-use Rattle.std.proofs.Common.{rules}
 use Rattle.descriptors.proofs.cells.descriptor.Goals as goal
 
 pub returns : goal.returns

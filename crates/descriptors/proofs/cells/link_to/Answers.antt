@@ -1,4 +1,4 @@
-use Rattle.std.proofs.Common.{sym, rules, le-ltb}
+use Rattle.std.proofs.Common.{sym, le-ltb}
 use Rattle.descriptors.proofs.cells.link_to.Goals as goal
 
 pub returns-else-to-lt65535 : goal.returns-else-to-lt65535

@@ -1,4 +1,4 @@
-use Rattle.std.proofs.Common.{sym, ap, ◌∙◌, arith, rules, ltb-true}
+use Rattle.std.proofs.Common.{sym, ap, ◌∙◌, arith, ltb-true}
 use Rattle.descriptors.specs.Cells.{numbered, next_cell}
 use Rattle.descriptors.proofs.cells.next_cell.Goals as goal
 

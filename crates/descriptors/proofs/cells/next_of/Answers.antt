@@ -1,5 +1,4 @@
 use Rattle.descriptors.specs.laws.Marks.{next-some}
-use Rattle.std.proofs.Common.{rules}
 use Rattle.descriptors.proofs.cells.next_of.Goals as goal
 
 pub returns-then-c-eq0 : goal.returns-then-c-eq0

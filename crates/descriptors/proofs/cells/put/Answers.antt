@@ -1,5 +1,5 @@
 use Rattle.descriptors.specs.Cells.{put}
-use Rattle.std.proofs.Common.{rules, le-ltb, lt-ltb, eq-eqb, ne_eqb}
+use Rattle.std.proofs.Common.{le-ltb, lt-ltb, eq-eqb, ne_eqb}
 use Rattle.descriptors.proofs.cells.put.Goals as goal
 
 pub returns-then-w-ne-CELLS : goal.returns-then-w-ne-CELLS

@@ -1,5 +1,5 @@
 use lib.Seq.{set_out}
-use Rattle.std.proofs.Common.{sym, rules}
+use Rattle.std.proofs.Common.{sym}
 use Rattle.descriptors.proofs.cells.set_buffer.Goals as goal
 
 pub returns-else-i-s : goal.returns-else-i-s

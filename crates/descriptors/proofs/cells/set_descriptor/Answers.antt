@@ -1,4 +1,3 @@
-use Rattle.std.proofs.Common.{rules}
 use Rattle.descriptors.proofs.cells.set_descriptor.Goals as goal
 
 pub returns : goal.returns

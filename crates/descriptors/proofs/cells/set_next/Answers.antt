@@ -1,4 +1,4 @@
-use Rattle.std.proofs.Common.{sym, ◌∙◌, rules}
+use Rattle.std.proofs.Common.{sym, ◌∙◌}
 use Rattle.descriptors.proofs.cells.set_next.Goals as goal
 
 pub returns-then-is_numbered : goal.returns-then-is_numbered

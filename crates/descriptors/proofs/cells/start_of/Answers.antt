@@ -1,5 +1,5 @@
 use lib.ListN.{get_or-eq_default}
-use Rattle.std.proofs.Common.{sym, rules}
+use Rattle.std.proofs.Common.{sym}
 use Rattle.descriptors.proofs.cells.start_of.Goals as goal
 
 pub returns-then-s-i : goal.returns-then-s-i

@@ -1,5 +1,4 @@
 use Rattle.descriptors.specs.laws.Marks.{eof-some}
-use Rattle.std.proofs.Common.{rules}
 use Rattle.descriptors.proofs.cells.suc_eof_of.Goals as goal
 
 pub returns-then-cell-eq0 : goal.returns-then-cell-eq0

@@ -1,4 +1,4 @@
-use Rattle.std.proofs.Common.{◌+◌, sym, arith, rules, le-ltb, lt-ltb}
+use Rattle.std.proofs.Common.{◌+◌, sym, arith, le-ltb, lt-ltb}
 use Rattle.descriptors.proofs.place.after.Goals as goal
 
 pub returns-then-n-i : goal.returns-then-n-i

@@ -1,6 +1,6 @@
 use Rattle.descriptors.specs.Cells.{are_records, are_cells}
 use Rattle.descriptors.specs.laws.Tests.{and-stop, and-go}
-use Rattle.std.proofs.Common.{rules, eq-eqb, ne_eqb}
+use Rattle.std.proofs.Common.{eq-eqb, ne_eqb}
 use Rattle.descriptors.proofs.ring.are_records.Goals as goal
 
 pub returns-then-s-ne-LIMIT : goal.returns-then-s-ne-LIMIT

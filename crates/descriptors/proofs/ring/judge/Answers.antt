@@ -6,7 +6,7 @@ use Rattle.descriptors.specs.laws.Lifts.{words}
 use Rattle.descriptors.specs.Ring.{ring_of, split_sound, sound, offset_ok, judged}
 use Rattle.descriptors.specs.Record.{limit}
 use Rattle.descriptors.specs.Cells.{are_records, record_at}
-use Rattle.std.proofs.Common.{◌≡◌, ℕ, ◌≤◌, Bool, true, ◌&&◌, ltb, List, [], sym, refl, ap, ◌∙◌, rules, le-ltb, lt-ltb}
+use Rattle.std.proofs.Common.{◌≡◌, ℕ, ◌≤◌, Bool, true, ◌&&◌, ltb, List, [], sym, refl, ap, ◌∙◌, le-ltb, lt-ltb}
 use borrow.Author.Tests.{not-true, not-false}
 use Rattle.descriptors.proofs.ring.judge.Goals as goal
 

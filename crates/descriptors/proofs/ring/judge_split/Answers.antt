@@ -6,7 +6,7 @@ use Rattle.descriptors.specs.laws.Lifts.{words}
 use Rattle.descriptors.specs.Ring.{ring_of, split_sound, judged}
 use Rattle.descriptors.specs.Split.{is_parts}
 use Rattle.descriptors.specs.Cells.{are_records}
-use Rattle.std.proofs.Common.{◌≡◌, ℕ, true, ◌&&◌, leb, List, sym, ap, ◌∙◌, arith, rules, le-leb}
+use Rattle.std.proofs.Common.{◌≡◌, ℕ, true, ◌&&◌, leb, List, sym, ap, ◌∙◌, arith, le-leb}
 use borrow.Author.Tests.{lt-leb, not-true, not-false}
 use Rattle.descriptors.proofs.ring.judge_split.Goals as goal
 

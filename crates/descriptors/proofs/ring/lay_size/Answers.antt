@@ -1,6 +1,6 @@
 use Rattle.descriptors.specs.laws.Stores.{lay-in, lay-out}
 use borrow.Author.Tests.{not-true, not-false}
-use Rattle.std.proofs.Common.{sym, ◌∙◌, rules}
+use Rattle.std.proofs.Common.{sym, ◌∙◌}
 use Rattle.descriptors.proofs.ring.lay_size.Goals as goal
 
 pub returns-then-not-receives : goal.returns-then-not-receives

@@ -1,8 +1,6 @@
-use Rattle.descriptors.specs.laws.Updates.{up_none, up_more}
 use Rattle.descriptors.specs.Stores.{lay_cells}
-use Rattle.descriptors.specs.Split.{size_of}
 use Rattle.descriptors.specs.Record.{up_to}
-use Rattle.std.proofs.Common.{◌≡◌, ◌-◌, ◌≤◌, length, sym, refl, ◌∙◌, arith, rules}
+use Rattle.std.proofs.Common.{◌≡◌, ◌-◌, ◌≤◌, length}
 use Rattle.descriptors.proofs.ring.lay_sizes.Given as goal
 
 abbrev pub invariant-loop-i : goal.invariant-loop-i

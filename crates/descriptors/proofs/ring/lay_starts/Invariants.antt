@@ -1,9 +1,6 @@
-use Rattle.descriptors.specs.laws.Splits.{next_start, start_small}
-use Rattle.descriptors.specs.laws.Updates.{up_none, up_more}
 use Rattle.descriptors.specs.Stores.{lay_start}
-use Rattle.descriptors.specs.Split.{start_of}
 use Rattle.descriptors.specs.Record.{up_to}
-use Rattle.std.proofs.Common.{◌≡◌, ◌-◌, ◌*◌, ◌≤◌, length, sym, refl, ◌∙◌, arith, rules}
+use Rattle.std.proofs.Common.{◌≡◌, ◌-◌, ◌*◌, ◌≤◌, length}
 use Rattle.descriptors.proofs.ring.lay_starts.Given as goal
 
 abbrev pub invariant-loop-i : goal.invariant-loop-i

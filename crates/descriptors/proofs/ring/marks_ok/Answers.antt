@@ -1,7 +1,6 @@
 use Rattle.descriptors.specs.laws.Tests.{flag_cleared, flag-kept}
-use Rattle.descriptors.specs.Cells.{all_below}
 use Rattle.descriptors.specs.Record.{limit}
-use Rattle.std.proofs.Common.{◌≡◌, ℕ, ◌+◌, ◌-◌, ◌*◌, ◌≤◌, Bool, leb, get_or, ◌∙◌, ⊎_elim, arith, rules, le-leb}
+use Rattle.std.proofs.Common.{◌≡◌, ℕ, ◌+◌, ◌*◌, Bool, leb, get_or, ◌∙◌, arith, le-leb}
 use borrow.Author.Tests.{lt-leb}
 use Rattle.descriptors.proofs.ring.marks_ok.Goals.{else-w-j-gt1, then-w-j-gt1}
 use Rattle.descriptors.proofs.ring.marks_ok.Goals as goal

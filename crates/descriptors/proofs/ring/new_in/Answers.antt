@@ -4,7 +4,7 @@ use Rattle.descriptors.specs.laws.Splits.{Known, parts-known}
 use Rattle.descriptors.specs.Ring.{split_done}
 use Rattle.descriptors.specs.Split.{split_of}
 use borrow.Author.Tests.{not-true, not-false}
-use Rattle.std.proofs.Common.{◌≡◌, sym, ap, ◌∙◌, arith, rules}
+use Rattle.std.proofs.Common.{◌≡◌, sym, ap, ◌∙◌, arith}
 use Rattle.descriptors.proofs.ring.new_in.Goals as goal
 
 pub returns-in_default : goal.returns-in_default

@@ -1,7 +1,6 @@
 use Rattle.descriptors.specs.laws.Tests.{flag_cleared, flag-kept}
-use Rattle.descriptors.specs.Cells.{all_below}
 use Rattle.descriptors.specs.Record.{limit}
-use Rattle.std.proofs.Common.{◌≡◌, ℕ, ◌+◌, ◌-◌, ◌*◌, ◌≤◌, Bool, leb, get_or, ◌∙◌, ⊎_elim, arith, rules, le-leb}
+use Rattle.std.proofs.Common.{◌≡◌, ℕ, ◌+◌, ◌*◌, Bool, leb, get_or, ◌∙◌, arith, le-leb}
 use borrow.Author.Tests.{lt-leb}
 use Rattle.descriptors.proofs.ring.nexts_ok.Goals.{else-most-w, then-most-w}
 use Rattle.descriptors.proofs.ring.nexts_ok.Goals as goal

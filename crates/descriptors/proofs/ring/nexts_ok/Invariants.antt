@@ -1,8 +1,6 @@
-use Rattle.descriptors.specs.laws.Tests.{flag_cleared, flag-kept}
 use Rattle.descriptors.specs.Cells.{all_below}
 use Rattle.descriptors.specs.Record.{limit}
-use Rattle.std.proofs.Common.{◌≡◌, ℕ, ◌+◌, ◌-◌, ◌*◌, ◌≤◌, Bool, leb, get_or, ◌∙◌, ⊎_elim, arith, rules, le-leb}
-use borrow.Author.Tests.{lt-leb}
+use Rattle.std.proofs.Common.{◌≡◌, ◌+◌, ◌-◌, ◌*◌, ◌≤◌, leb, get_or}
 use Rattle.descriptors.proofs.ring.nexts_ok.Given as goal
 
 abbrev pub invariant-loop-i : goal.invariant-loop-i

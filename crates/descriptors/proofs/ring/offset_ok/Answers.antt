@@ -1,7 +1,7 @@
 use Rattle.descriptors.specs.Cells.{record_at}
 use Rattle.descriptors.specs.Ring.{offset_ok}
 use Rattle.descriptors.specs.declared.record.TransferDirection.{TransferDirection}
-use Rattle.std.proofs.Common.{[], sym, ap, ◌∙◌, rules}
+use Rattle.std.proofs.Common.{[], sym, ap, ◌∙◌}
 use Rattle.descriptors.proofs.ring.offset_ok.Goals as goal
 
 pub returns-in-In : goal.returns-in-In

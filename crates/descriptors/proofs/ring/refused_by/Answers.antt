@@ -1,5 +1,5 @@
 use Rattle.descriptors.specs.Ring.{split_done}
-use Rattle.std.proofs.Common.{sym, ap, rules}
+use Rattle.std.proofs.Common.{sym, ap}
 use Rattle.descriptors.proofs.ring.refused_by.Goals as goal
 
 pub returns-in-Refused : goal.returns-in-Refused

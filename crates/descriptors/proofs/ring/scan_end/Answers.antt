@@ -1,4 +1,4 @@
-use Rattle.std.proofs.Common.{sym, rules, eq-eqb, ne_eqb}
+use Rattle.std.proofs.Common.{sym, eq-eqb, ne_eqb}
 use Rattle.descriptors.proofs.ring.scan_end.Goals as goal
 
 pub returns-then-last-chunk : goal.returns-then-last-chunk

@@ -1,4 +1,4 @@
-use Rattle.std.proofs.Common.{sym, rules, eq-eqb, ne_eqb}
+use Rattle.std.proofs.Common.{sym, eq-eqb, ne_eqb}
 use Rattle.descriptors.proofs.ring.size_at.Goals as goal
 
 pub returns-then-i-n : goal.returns-then-i-n

@@ -1,7 +1,5 @@
-use Rattle.descriptors.specs.laws.Tests.{and_right, and-never}
-use Rattle.descriptors.specs.laws.Tests.{flag_cleared, flag-kept}
 use Rattle.descriptors.specs.Cells.{all_below}
-use Rattle.std.proofs.Common.{◌≡◌, ℕ, ◌+◌, ◌-◌, ◌<◌, ◌≤◌, Bool, true, false, cond, eqb, get_or, sym, refl, ap, ◌∙◌, ⊎_elim, arith, rules, eq-eqb, ne_eqb, eqb-true}
+use Rattle.std.proofs.Common.{◌≡◌, ◌-◌, ◌≤◌, cond, eqb, get_or}
 use Rattle.descriptors.proofs.ring.sizes_ok.Given as goal
 
 abbrev pub invariant-loop-i : goal.invariant-loop-i

@@ -1,8 +1,5 @@
-use Rattle.descriptors.specs.laws.Splits.{next_start, start_small}
-use Rattle.descriptors.specs.laws.Tests.{flag_cleared, flag-kept, and-stop, all-at}
 use Rattle.descriptors.specs.Cells.{all_below}
-use Rattle.descriptors.specs.Record.{limit}
-use Rattle.std.proofs.Common.{◌≡◌, ℕ, ◌+◌, ◌-◌, ◌*◌, ◌%◌, ◌^◌, ◌<◌, ◌≤◌, Bool, true, false, eqb, get_or, sym, refl, ◌∙◌, ⊎_elim, add-one, arith, rules, eq-eqb, ne_eqb, eqb-true}
+use Rattle.std.proofs.Common.{◌≡◌, ◌-◌, ◌*◌, ◌≤◌, true, eqb, get_or}
 use Rattle.descriptors.proofs.ring.starts_ok.Given as goal
 
 -- While the flag is up, the start is the one that is due; afterwards it may be anything.

@@ -1,5 +1,5 @@
 use Rattle.descriptors.specs.Split.{split_of}
-use Rattle.std.proofs.Common.{sym, rules, le-ltb, lt-ltb, eq-eqb, ne_eqb, le-leb}
+use Rattle.std.proofs.Common.{sym, le-ltb, lt-ltb, eq-eqb, ne_eqb, le-leb}
 use borrow.Author.Tests.{lt-leb}
 use Rattle.descriptors.proofs.split.split_of.Goals as goal
 

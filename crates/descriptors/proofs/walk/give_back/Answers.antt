@@ -1,5 +1,4 @@
 use Rattle.descriptors.specs.Stores.{hand_cells}
-use Rattle.std.proofs.Common.{rules}
 use Rattle.descriptors.proofs.walk.give_back.Goals as goal
 
 pub returns : goal.returns

@@ -1,9 +1,6 @@
-use Rattle.std.proofs.Common.{◌≡◌, ℕ, length, sym, ap, ◌∙◌, arith, rules, le-leb}
-use borrow.Author.Tests.{lt-leb}
-use Rattle.descriptors.specs.laws.Walks.{turns-none, turns_go}
-use Rattle.descriptors.specs.Stores.{hand_cells, hand_all}
-use Rattle.descriptors.specs.Place.{after, turns}
-use Rattle.descriptors.specs.Record.{blank}
+use Rattle.std.proofs.Common.{◌≡◌, length}
+use Rattle.descriptors.specs.Stores.{hand_cells}
+use Rattle.descriptors.specs.Place.{turns}
 use Rattle.descriptors.proofs.walk.hand_over.Given as goal
 
 abbrev pub invariant-loop-left : goal.invariant-loop-left

@@ -1,6 +1,6 @@
 use Rattle.descriptors.specs.Stores.{hand_cells}
 use Rattle.descriptors.specs.declared.record.TransferDirection.{TransferDirection}
-use Rattle.std.proofs.Common.{sym, ap, ◌∙◌, rules}
+use Rattle.std.proofs.Common.{sym, ap, ◌∙◌}
 use Rattle.descriptors.proofs.walk.hand_over_one.Goals as goal
 
 pub returns-in-In : goal.returns-in-In

@@ -1,8 +1,7 @@
-use Rattle.std.proofs.Common.{◌≡◌, ◌-◌, ◌≤◌, length, sym, refl, ap, ◌∙◌, arith, rules, le-leb}
+use Rattle.std.proofs.Common.{◌≡◌, sym, refl, ap, ◌∙◌, arith, rules, le-leb}
 use borrow.Author.Tests.{lt-leb}
 use Rattle.descriptors.specs.laws.Updates.{up_none, up_more}
 use Rattle.descriptors.specs.Stores.{link_cells, link_all}
-use Rattle.descriptors.specs.Record.{up_to}
 use Rattle.descriptors.proofs.walk.link_all.Goals as goal
 
 pub returns-then-n-gt-LIMIT : goal.returns-then-n-gt-LIMIT

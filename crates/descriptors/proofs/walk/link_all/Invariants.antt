@@ -1,7 +1,5 @@
-use Rattle.std.proofs.Common.{◌≡◌, ◌-◌, ◌≤◌, length, sym, refl, ap, ◌∙◌, arith, rules, le-leb}
-use borrow.Author.Tests.{lt-leb}
-use Rattle.descriptors.specs.laws.Updates.{up_none, up_more}
-use Rattle.descriptors.specs.Stores.{link_cells, link_all}
+use Rattle.std.proofs.Common.{◌≡◌, ◌-◌, ◌≤◌, length}
+use Rattle.descriptors.specs.Stores.{link_cells}
 use Rattle.descriptors.specs.Record.{up_to}
 use Rattle.descriptors.proofs.walk.link_all.Given as goal
 

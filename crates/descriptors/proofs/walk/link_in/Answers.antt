@@ -1,5 +1,4 @@
 use Rattle.descriptors.specs.Stores.{link_cells}
-use Rattle.std.proofs.Common.{rules}
 use Rattle.descriptors.proofs.walk.link_in.Goals as goal
 
 pub returns : goal.returns

@@ -1,6 +1,6 @@
 use Rattle.descriptors.specs.Stores.{link_cells}
 use Rattle.descriptors.specs.declared.record.TransferDirection.{TransferDirection}
-use Rattle.std.proofs.Common.{sym, ap, ◌∙◌, rules}
+use Rattle.std.proofs.Common.{sym, ap, ◌∙◌}
 use Rattle.descriptors.proofs.walk.link_one.Goals as goal
 
 pub returns-in-In : goal.returns-in-In

@@ -1,10 +1,6 @@
-use Rattle.descriptors.specs.laws.Walks.{run_none, run-stop, run-go}
 use Rattle.descriptors.specs.Walk.{run_bytes}
 use Rattle.descriptors.specs.Cells.{record_at}
-use Rattle.descriptors.specs.Place.{after}
-use Rattle.descriptors.specs.Record.{is_cpu}
-use Rattle.std.proofs.Common.{◌≡◌, ℕ, ◌+◌, ◌-◌, ◌*◌, ◌≤◌, [], sym, ap, ◌∙◌, arith, rules, le-leb}
-use borrow.Author.Tests.{lt-leb, not-true, not-false}
+use Rattle.std.proofs.Common.{◌≡◌, ◌+◌, ◌-◌, ◌*◌, ◌≤◌, []}
 use Rattle.descriptors.proofs.walk.run_bytes.Given as goal
 
 abbrev pub invariant-loop-left : goal.invariant-loop-left

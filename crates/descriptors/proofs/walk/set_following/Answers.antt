@@ -1,4 +1,4 @@
-use Rattle.std.proofs.Common.{rules, eq-eqb, ne_eqb}
+use Rattle.std.proofs.Common.{eq-eqb, ne_eqb}
 use Rattle.descriptors.proofs.walk.set_following.Goals as goal
 
 pub returns-then-i-n : goal.returns-then-i-n

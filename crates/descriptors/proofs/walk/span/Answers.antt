@@ -1,7 +1,7 @@
 use Rattle.descriptors.specs.Cells.{record_at}
 use Rattle.descriptors.specs.Record.{span_of}
 use Rattle.descriptors.specs.declared.record.TransferDirection.{TransferDirection}
-use Rattle.std.proofs.Common.{[], sym, ap, ◌∙◌, rules}
+use Rattle.std.proofs.Common.{[], sym, ap, ◌∙◌}
 use Rattle.descriptors.proofs.walk.span.Goals as goal
 
 pub returns-in-In : goal.returns-in-In

@@ -1,11 +1,6 @@
-use Rattle.descriptors.specs.declared.walk.Moved.{Moved}
-use Rattle.descriptors.specs.laws.Walks.{walk_none, walk-stop, walk-part, walk-go, walk-in, walk-out}
-use Rattle.descriptors.specs.Walk.{walk, walk_in}
+use Rattle.descriptors.specs.Walk.{walk}
 use Rattle.descriptors.specs.Cells.{record_at}
-use Rattle.descriptors.specs.Place.{after}
-use Rattle.descriptors.specs.Record.{is_cpu, span_of}
-use borrow.Author.Tests.{not-true, not-false}
-use Rattle.std.proofs.Common.{◌≡◌, ℕ, ◌-◌, ◌≤◌, [], sym, ap, ◌∙◌, arith, rules}
+use Rattle.std.proofs.Common.{◌≡◌, ◌-◌, ◌≤◌, []}
 use Rattle.descriptors.proofs.walk.walk_over.Given as goal
 
 abbrev pub invariant-loop-left : goal.invariant-loop-left

@@ -1,4 +1,3 @@
-use borrow.Author.Rules.{rules}
 use Rattle.device.specs.laws.Values.{sent-value}
 use Rattle.device.proofs.by_value.transmit_step.Goals as goal
 
@@ -6,4 +5,4 @@ pub returns : goal.returns
 returns c =
     let a = c.args in
     let m = c.transmit_step_in-r in
-    record { value = sent-value a.ring a.device a.buffer.now a.out.now _ _ m.result m.ensures; out_after = m.ensures.output; }
+    record { value = sent-value a.ring a.device a.buffer.now a.out.now _ _ m.result m.ensures; out_after = m.ensures.output }

@@ -1,4 +1,3 @@
-use borrow.Author.Rules.{rules}
 use Rattle.device.specs.laws.Receive.{close-stores}
 use Rattle.device.proofs.receive.close.Goals as goal
 

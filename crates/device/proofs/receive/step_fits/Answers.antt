@@ -1,7 +1,6 @@
 use mathlib.Core.Path.{sym}
 use native.Mathlib.Omega.{arith}
 use borrow.Author.Tests.{lt-ltb, le-ltb}
-use borrow.Author.Rules.{rules}
 use Rattle.device.proofs.receive.step_fits.Goals as goal
 
 pub returns-then-k-eq0 : goal.returns-then-k-eq0

@@ -1,4 +1,3 @@
-use borrow.Author.Rules.{rules}
 use Rattle.descriptors.specs.Ring.{ring_of}
 use Rattle.device.specs.laws.Steps.{stand-judged, stand-refused}
 use Rattle.device.proofs.stand.find.Goals as goal

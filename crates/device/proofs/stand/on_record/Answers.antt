@@ -1,6 +1,5 @@
 use mathlib.Core.Path.{sym, ap, ◌∙◌}
 use borrow.Author.Tests.{lt-ltb, le-ltb}
-use borrow.Author.Rules.{rules}
 use Rattle.device.specs.Device.{stands_on}
 use Rattle.device.proofs.stand.on_record.Goals as goal
 

@@ -1,5 +1,4 @@
 use mathlib.Core.Path.{sym, ap}
-use borrow.Author.Rules.{rules}
 use Rattle.device.specs.Faces.{stand_counted}
 use Rattle.device.proofs.transmit.refused.Goals as goal
 

@@ -1,6 +1,5 @@
 use Rattle.psram.specs.Cut.{cut_of}
 use mathlib.Core.Path.{sym, ◌∙◌}
-use borrow.Author.Rules.{rules}
 use Rattle.psram.proofs.cut.cut.Goals as goal
 
 pub returns-then-is_past : goal.returns-then-is_past

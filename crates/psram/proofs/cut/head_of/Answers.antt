@@ -1,7 +1,6 @@
 use Rattle.psram.specs.Cut.{head_of}
 use mathlib.Core.Path.{sym, ◌∙◌}
 use borrow.Author.Tests.{le-leb, lt-leb}
-use borrow.Author.Rules.{rules}
 use Rattle.psram.proofs.cut.head_of.Goals as goal
 
 pub returns-then-length-bounce : goal.returns-then-length-bounce

@@ -1,6 +1,5 @@
 use Rattle.psram.specs.laws.Parts.{sides}
 use mathlib.Core.Path.{◌∙◌}
-use borrow.Author.Rules.{rules}
 use Rattle.psram.proofs.cut.plan.Goals as goal
 
 pub planned-requires : goal.planned-requires

@@ -1,7 +1,6 @@
 use Rattle.psram.specs.laws.Parts.{head-le, tail-le}
 use Rattle.psram.specs.Cut.{tail_of, plan_of}
 use mathlib.Core.Path.{◌≡◌, ◌∙◌}
-use borrow.Author.Rules.{rules}
 use Rattle.psram.proofs.cut.planned.Goals as goal
 
 tail : (c : goal.After-grown-tail) → let a = c.args in c.grown-tail.result ≡ tail_of a.least a.bounce a.address a.length

@@ -1,6 +1,5 @@
 use Rattle.psram.specs.List.{built_of}
 use mathlib.Core.Path.{refl}
-use borrow.Author.Rules.{rules}
 use Rattle.psram.proofs.list.build_descriptor_list.Goals as goal
 
 pub returns : goal.returns

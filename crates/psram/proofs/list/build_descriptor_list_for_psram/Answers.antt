@@ -4,7 +4,6 @@ use Rattle.psram.specs.Piece.{ready_of}
 use Rattle.descriptors.specs.Cells.{are_records}
 use native.Mathlib.Omega.{arith}
 use mathlib.Core.Path.{◌≡◌, sym, ◌∙◌}
-use borrow.Author.Rules.{rules}
 use Rattle.psram.proofs.list.build_descriptor_list_for_psram.Goals as goal
 
 pub pieces-requires : goal.pieces-requires

@@ -1,6 +1,5 @@
 use Rattle.psram.specs.laws.Lists.{link-some}
 use mathlib.Core.Path.{sym, ◌∙◌}
-use borrow.Author.Rules.{rules}
 use Rattle.psram.proofs.list.link_before.Goals as goal
 
 pub returns-then-i-ne0 : goal.returns-then-i-ne0

@@ -3,7 +3,6 @@ use Rattle.psram.specs.laws.Pieces.{small-fits}
 use Rattle.psram.specs.List.{list_start, list_cells}
 use native.Mathlib.Omega.{arith}
 use mathlib.Core.Path.{◌≡◌, ◌∙◌, ap}
-use borrow.Author.Rules.{rules}
 use Rattle.psram.proofs.list.list_one.Goals as goal
 
 pub overflow_cast-size : goal.overflow_cast-size

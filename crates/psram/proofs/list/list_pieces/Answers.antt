@@ -1,12 +1,8 @@
 use Rattle.descriptors.specs.laws.Updates.{up_none, up_more}
 use Rattle.psram.specs.laws.Lists.{covered_none, covered_more}
 use borrow.Author.Rules.{rules}
-use lib.ListN.{length}
-use Rattle.psram.specs.Cut.{piece}
-use Rattle.descriptors.specs.Record.{up_to}
-use Rattle.psram.specs.List.{list_start, list_cells, covered_of}
+use Rattle.psram.specs.List.{list_start, list_cells}
 use native.Mathlib.Omega.{arith}
-use Prim.Native.Nat.{◌-◌, ◌*◌, ◌≤◌}
 use mathlib.Core.Path.{◌≡◌, refl, sym, ◌∙◌, ap}
 use Rattle.psram.proofs.list.list_pieces.Goals as goal
 

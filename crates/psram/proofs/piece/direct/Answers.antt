@@ -1,7 +1,6 @@
 use Prim.Native.Nat.{◌-◌, ◌*◌, min}
 use native.Mathlib.Omega.{arith}
 use mathlib.Core.Path.{◌≡◌}
-use borrow.Author.Rules.{rules}
 use Rattle.psram.proofs.piece.direct.Goals as goal
 
 pub returns-then-left-lt-PIECE : goal.returns-then-left-lt-PIECE

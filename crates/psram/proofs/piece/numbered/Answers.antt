@@ -3,7 +3,6 @@ use Rattle.psram.specs.laws.Pieces.{ready, bytes_le}
 use Rattle.psram.specs.Piece.{numbered_of}
 use mathlib.Core.Path.{sym, ◌∙◌}
 use borrow.Author.Tests.{lt-ltb, le-ltb}
-use borrow.Author.Rules.{rules}
 use Rattle.psram.proofs.piece.numbered.Goals as goal
 
 pub returns-then-n-i : goal.returns-then-n-i

@@ -4,7 +4,6 @@ use Rattle.psram.specs.laws.Pieces.{Within, within, span}
 use Prim.Native.Nat.{◌+◌, ◌≤◌}
 use native.Mathlib.Omega.{arith}
 use mathlib.Core.Path.{sym, ◌∙◌, subst}
-use borrow.Author.Rules.{rules}
 use Rattle.psram.proofs.piece.piece.Goals as goal
 
 pub overflow_add-end : goal.overflow_add-end
@@ -42,13 +41,13 @@ slice_bounds-result-end-in-InRange c =
 pub returns-in-InStore : goal.returns-in-InStore
 returns-in-InStore c =
     let e = sym c.numbered.ensures ∙ c.in-InStore.is in
-    record { result_value = simp (e, span c.in-InStore.start c.in-InStore.size); ref_ptr_value = simp e; }
+    record { result_value = simp (e, span c.in-InStore.start c.in-InStore.size); ref_ptr_value = simp e }
 
 pub returns-in-InRange : goal.returns-in-InRange
 returns-in-InRange c =
     let e = sym c.numbered.ensures ∙ c.in-InRange.is in
-    record { result_value = simp (e, span c.in-InRange.start c.in-InRange.size); ref_ptr_value = simp e; }
+    record { result_value = simp (e, span c.in-InRange.start c.in-InRange.size); ref_ptr_value = simp e }
 
 pub returns-in-Refused : goal.returns-in-Refused
 returns-in-Refused c =
-    let e = sym c.numbered.ensures ∙ c.in-Refused.is in record { result_value = simp e; ref_ptr_value = simp e; }
+    let e = sym c.numbered.ensures ∙ c.in-Refused.is in record { result_value = simp e; ref_ptr_value = simp e }

@@ -1,7 +1,6 @@
 use Rattle.psram.specs.Piece.{piece_of}
 use mathlib.Core.Path.{sym, ◌∙◌}
 use borrow.Author.Tests.{lt-ltb, le-ltb}
-use borrow.Author.Rules.{rules}
 use Rattle.psram.proofs.piece.piece_at.Goals as goal
 
 pub returns-then-i-ahead : goal.returns-then-i-ahead

@@ -1,5 +1,4 @@
 use mathlib.Core.Path.{sym, ◌∙◌}
-use borrow.Author.Rules.{rules}
 use Rattle.psram.proofs.piece.piece_refusal.Goals as goal
 
 pub returns-in-InStore : goal.returns-in-InStore

@@ -1,7 +1,6 @@
 use Rattle.psram.specs.laws.Pieces.{some-le}
 use Rattle.psram.specs.Piece.{pieces_of}
 use native.Mathlib.Omega.{arith}
-use borrow.Author.Rules.{rules}
 use Rattle.psram.proofs.piece.pieces.Goals as goal
 
 pub overflow_add-result : goal.overflow_add-result

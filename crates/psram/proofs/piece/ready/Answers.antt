@@ -8,7 +8,6 @@ use Rattle.psram.specs.Cut.{bounce_of}
 use Rattle.psram.specs.Piece.{ready_of}
 use native.Mathlib.Omega.{arith}
 use borrow.Author.Tests.{lt-ltb, le-ltb, le-leb, lt-leb, not-true, not-false}
-use borrow.Author.Rules.{rules}
 use Rattle.psram.proofs.piece.ready.Goals as goal
 
 pub returns-then-n-gt-LIMIT : goal.returns-then-n-gt-LIMIT

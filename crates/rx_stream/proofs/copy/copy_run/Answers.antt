@@ -1,17 +1,15 @@
 use Rattle.rx_stream.specs.laws.Copies.{todo, none_left, Found, found, wrapped-lt}
 use Rattle.rx_stream.specs.laws.Takes.{known}
 use Rattle.rx_stream.specs.laws.Lists.{put-none}
-use Rattle.rx_stream.specs.Pieces.{piece_of, nothing, least, wrapped}
+use Rattle.rx_stream.specs.Pieces.{piece_of, nothing}
 use Rattle.descriptors.specs.laws.Sound.{offset-least}
 use Rattle.descriptors.specs.Ring.{ring_of, record_of}
 use Rattle.descriptors.specs.Walk.{standing}
 use lib.Seq.{paste}
-use Rattle.rx_stream.specs.Receive.{over}
-use Rattle.descriptors.specs.Walk.{run_data}
-use Rattle.descriptors.specs.Cells.{records_of, record_at}
-use Rattle.descriptors.specs.Record.{limit, record_in}
+use Rattle.descriptors.specs.Cells.{record_at}
+use Rattle.descriptors.specs.Record.{limit}
 use Rattle.descriptors.specs.declared.record.TransferDirection.TheVariants.{In}
-use Rattle.std.proofs.Common.{◌≡◌, ℕ, ◌+◌, ◌-◌, ◌<◌, ◌≤◌, cond, leb, [], ◌++◌, length, take, drop, refl, ap, ◌∙◌, arith, rules}
+use Rattle.std.proofs.Common.{◌≡◌, ℕ, ◌+◌, ◌-◌, ◌≤◌, cond, leb, [], length, drop, refl, ap, ◌∙◌, arith}
 use Rattle.rx_stream.proofs.copy.copy_run.Goals as goal
 
 pub loop-left-init : goal.loop-left-init
@@ -115,8 +113,7 @@ loop-left-preserved c =
     let want = length a.dst.now - c.loop-left.done in
     found a.s.now a.w.now a.h a.src.now c.requires c.loop-left.offset want c.loop-left.left c.loop-left.at c.loop-left.invariant.0 (omega arith) c.loop-left.invariant.2 c.piece_of-p.result
     (c.piece_of-p.ensures ∙ ap (λ (e : ℕ). cond (leb e limit) (piece_of (record_at [] a.w.now) c.loop-left.offset want (e - c.loop-left.at) c.loop-left.at) nothing) c.least-end.ensures) in
-    let a = c.args in
-    (
+    let a = c.args in (
       rw c.wrapped-at.ensures (wrapped-lt a.h.count (c.loop-left.at + c.piece_of-p.result.records) (omega (arith, c.loop-left.invariant.0))),
       omega (arith, c.loop-left.invariant.1),
       omega arith,

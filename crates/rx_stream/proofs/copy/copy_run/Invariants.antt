@@ -1,17 +1,9 @@
-use Rattle.rx_stream.specs.laws.Copies.{todo, none_left, Found, found, wrapped-lt}
-use Rattle.rx_stream.specs.laws.Takes.{known}
-use Rattle.rx_stream.specs.laws.Lists.{put-none}
-use Rattle.rx_stream.specs.Pieces.{piece_of, nothing, least, wrapped}
-use Rattle.descriptors.specs.laws.Sound.{offset-least}
-use Rattle.descriptors.specs.Ring.{ring_of, record_of}
-use Rattle.descriptors.specs.Walk.{standing}
-use lib.Seq.{paste}
 use Rattle.rx_stream.specs.Receive.{over}
 use Rattle.descriptors.specs.Walk.{run_data}
-use Rattle.descriptors.specs.Cells.{records_of, record_at}
-use Rattle.descriptors.specs.Record.{limit, record_in}
+use Rattle.descriptors.specs.Cells.{records_of}
+use Rattle.descriptors.specs.Record.{record_in}
 use Rattle.descriptors.specs.declared.record.TransferDirection.TheVariants.{In}
-use Rattle.std.proofs.Common.{◌≡◌, ℕ, ◌+◌, ◌-◌, ◌<◌, ◌≤◌, cond, leb, [], ◌++◌, length, take, drop, refl, ap, ◌∙◌, arith, rules}
+use Rattle.std.proofs.Common.{◌≡◌, ◌<◌, ◌≤◌, ◌++◌, length, take, drop}
 use Rattle.rx_stream.proofs.copy.copy_run.Given as goal
 
 abbrev pub invariant-loop-left : goal.invariant-loop-left

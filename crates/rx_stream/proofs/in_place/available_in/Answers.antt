@@ -7,7 +7,7 @@ use Rattle.descriptors.specs.Ring.{ring_of, sound}
 use Rattle.descriptors.specs.Cells.{records_of}
 use Rattle.descriptors.specs.Record.{limit, record_in}
 use Rattle.descriptors.specs.declared.record.TransferDirection.TheVariants.{In}
-use Rattle.std.proofs.Common.{◌≡◌, ℕ, ◌-◌, true, sym, ap, ◌∙◌, arith, rules, le-leb}
+use Rattle.std.proofs.Common.{◌≡◌, ℕ, ◌-◌, true, sym, ap, ◌∙◌, arith, le-leb}
 use Rattle.rx_stream.proofs.in_place.available_in.Goals as goal
 
 pub returns-in_default : goal.returns-in_default

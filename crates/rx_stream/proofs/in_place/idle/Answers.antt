@@ -1,6 +1,6 @@
 use Rattle.descriptors.specs.Cells.{record_at}
 use Rattle.descriptors.specs.Record.{is_cpu}
-use Rattle.std.proofs.Common.{◌≡◌, ℕ, eqb, [], sym, ap, ◌∙◌, rules, eq-eqb, ne_eqb}
+use Rattle.std.proofs.Common.{◌≡◌, ℕ, eqb, [], sym, ap, ◌∙◌, eq-eqb, ne_eqb}
 use borrow.Author.Tests.{not-true, not-false}
 use Rattle.rx_stream.proofs.in_place.idle.Goals as goal
 

@@ -10,7 +10,7 @@ use Rattle.descriptors.specs.laws.Lifts.{record_is}
 use Rattle.descriptors.specs.Ring.{ring_of, sound, record_of}
 use Rattle.descriptors.specs.Cells.{records_of, record_at}
 use Rattle.descriptors.specs.Record.{limit, record_in}
-use Rattle.std.proofs.Common.{◌≡◌, ◌-◌, true, [], length, sym, ap, ◌∙◌, arith, rules, le-leb}
+use Rattle.std.proofs.Common.{◌≡◌, ◌-◌, true, [], length, sym, ap, ◌∙◌, arith, le-leb}
 use Rattle.descriptors.specs.declared.record.TransferDirection.TheVariants.{In}
 use Rattle.rx_stream.proofs.in_place.part_in.Goals as goal
 
@@ -19,7 +19,7 @@ returns-in_default c =
     let a = c.args in
     let r = ring_of a.s.now a.w.now a.h in
     let u = unsound _ c.judge-answer.ensures c.in_default.is in
-    record { result_value = sym (peek-refused r a.buffer.now a.until_eof u); ref_ptr_value = ap (part_from a.buffer) (sym (place-refused r a.buffer.now u)); }
+    record { result_value = sym (peek-refused r a.buffer.now a.until_eof u); ref_ptr_value = ap (part_from a.buffer) (sym (place-refused r a.buffer.now u)) }
 
 pub overflow_add-from : goal.overflow_add-from
 overflow_add-from c =
@@ -103,4 +103,4 @@ returns c =
     c.start_of-start.ensures ∙ sym (ap (λ (d : DmaDescriptor). d.buffer) (record_is a.s.now a.w.now (held a.s.now a.w.now a.h (length a.buffer.now) passed) a.h.descriptor_idx)) in
     let a = c.args in
     let p = part a.until_eof (ring_of a.s.now a.w.now a.h) (length a.buffer.now) (known a.s.now a.w.now a.h (length a.buffer.now) passed) in
-    let r = ring_of a.s.now a.w.now a.h in record { result_value = rw (peek-done r a.buffer.now a.until_eof passed) (simp (starts, flats, part_length)); ref_ptr_value = ap (part_from a.buffer) (rw (place-done r a.buffer.now passed) (simp starts)); }
+    let r = ring_of a.s.now a.w.now a.h in record { result_value = rw (peek-done r a.buffer.now a.until_eof passed) (simp (starts, flats, part_length)); ref_ptr_value = ap (part_from a.buffer) (rw (place-done r a.buffer.now passed) (simp starts)) }

@@ -6,7 +6,7 @@ use Rattle.descriptors.specs.laws.Sound.{ready-split}
 use Rattle.descriptors.specs.Ring.{ring_of, sound}
 use Rattle.descriptors.specs.Cells.{records_of, record_at}
 use Rattle.descriptors.specs.Record.{limit, record_in}
-use Rattle.std.proofs.Common.{◌≡◌, ◌-◌, Bool, true, [], sym, ap, ◌∙◌, rules, le-leb}
+use Rattle.std.proofs.Common.{◌≡◌, ◌-◌, Bool, true, [], sym, ap, ◌∙◌, le-leb}
 use Rattle.descriptors.specs.declared.record.TransferDirection.TheVariants.{In}
 use Rattle.rx_stream.proofs.in_place.peek_eof_in.Goals as goal
 

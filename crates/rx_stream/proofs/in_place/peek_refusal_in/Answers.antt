@@ -1,5 +1,4 @@
 use Rattle.rx_stream.specs.Receive.{peek_refusal_of}
-use Rattle.std.proofs.Common.{rules}
 use Rattle.rx_stream.proofs.in_place.peek_refusal_in.Goals as goal
 
 pub returns : goal.returns

@@ -6,7 +6,7 @@ use Rattle.descriptors.specs.declared.refusal.Counted.TheVariants.{Bytes}
 use Rattle.descriptors.specs.laws.Words.{cells_same}
 use Rattle.descriptors.specs.laws.Sound.{ready-split}
 use Rattle.descriptors.specs.Ring.{ring_of, sound}
-use Rattle.std.proofs.Common.{◌≡◌, true, false, length, sym, refl, ap, ◌∙◌, rules}
+use Rattle.std.proofs.Common.{◌≡◌, true, false, length, sym, refl, ap, ◌∙◌}
 use Rattle.descriptors.specs.declared.record.TransferDirection.TheVariants.{In}
 use Rattle.rx_stream.proofs.in_place.pop_in.Goals as goal
 
@@ -14,7 +14,7 @@ pub returns-in_default : goal.returns-in_default
 returns-in_default c =
     let a = c.args in
     let e : sound In (ring_of a.s.now a.w.now a.h) (length a.buffer.now) ≡ false = unsound _ c.judge-answer.ensures c.in_default.is in
-    rw (pop-refused (ring_of a.s.now a.w.now a.h) (length a.buffer.now) (length a.dst.now) e, popped-refused (ring_of a.s.now a.w.now a.h) a.buffer.now a.dst.now e) (record { w_after = cells_same a.s.now a.w.now; dst_after = refl; value = refl; })
+    rw (pop-refused (ring_of a.s.now a.w.now a.h) (length a.buffer.now) (length a.dst.now) e, popped-refused (ring_of a.s.now a.w.now a.h) a.buffer.now a.dst.now e) (record { w_after = cells_same a.s.now a.w.now; dst_after = refl; value = refl })
 
 pub returns-then-idle : goal.returns-then-idle
 returns-then-idle c =
@@ -23,7 +23,7 @@ returns-then-idle c =
     c.idle.ensures ∙ idle-shown a.s.now a.w.now a.h (length a.buffer.now) passed (length a.dst.now) in
     let a = c.args in
     let e = sym idles ∙ c.if-idle.true in
-    rw (pop-idle (ring_of a.s.now a.w.now a.h) (length a.buffer.now) (length a.dst.now) passed e, popped-idle (ring_of a.s.now a.w.now a.h) a.buffer.now a.dst.now passed e) (record { w_after = cells_same a.s.now a.w.now; dst_after = refl; value = refl; })
+    rw (pop-idle (ring_of a.s.now a.w.now a.h) (length a.buffer.now) (length a.dst.now) passed e, popped-idle (ring_of a.s.now a.w.now a.h) a.buffer.now a.dst.now passed e) (record { w_after = cells_same a.s.now a.w.now; dst_after = refl; value = refl })
 
 pub copy_run-requires : goal.copy_run-requires
 copy_run-requires c =

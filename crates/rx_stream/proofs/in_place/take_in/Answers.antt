@@ -5,7 +5,7 @@ use Rattle.descriptors.specs.declared.record.TransferDirection.TheVariants.{In}
 use Rattle.descriptors.specs.laws.Walks.{walk-in-rest}
 use Rattle.descriptors.specs.Stores.{hand_all}
 use Rattle.descriptors.specs.Cells.{record_at}
-use Rattle.std.proofs.Common.{◌≤◌, [], ap, ◌∙◌, arith, rules}
+use Rattle.std.proofs.Common.{◌≤◌, [], ap, ◌∙◌, arith}
 use Rattle.rx_stream.proofs.in_place.take_in.Goals as goal
 
 pub overflow_sub-taken : goal.overflow_sub-taken

@@ -1,5 +1,5 @@
 use borrow.Author.Tests.{not-true, not-false}
-use Rattle.std.proofs.Common.{sym, ◌∙◌, rules}
+use Rattle.std.proofs.Common.{sym, ◌∙◌}
 use Rattle.rx_stream.proofs.piece.ends_with.Goals as goal
 
 pub returns-then-is_short : goal.returns-then-is_short

@@ -2,7 +2,7 @@ use Rattle.rx_stream.specs.laws.Flats.{flat-none, flat-stop, flat-ends, flat-go}
 use Rattle.rx_stream.specs.Receive.{flat_bytes}
 use Rattle.descriptors.specs.Cells.{record_at}
 use Rattle.descriptors.specs.Record.{is_cpu}
-use Rattle.std.proofs.Common.{◌≡◌, ℕ, ◌+◌, ◌-◌, ◌*◌, ◌≤◌, [], sym, ap, ◌∙◌, arith, rules, le-leb}
+use Rattle.std.proofs.Common.{◌≡◌, ℕ, ◌+◌, ◌-◌, [], sym, ap, ◌∙◌, arith, le-leb}
 use borrow.Author.Tests.{lt-leb, not-true, not-false}
 use Rattle.rx_stream.proofs.piece.flat_bytes.Goals as goal
 

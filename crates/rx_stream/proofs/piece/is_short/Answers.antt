@@ -1,5 +1,5 @@
 use Rattle.descriptors.specs.Cells.{cell}
-use Rattle.std.proofs.Common.{ℕ, ltb, ap, ◌∙◌, rules}
+use Rattle.std.proofs.Common.{ℕ, ltb, ap, ◌∙◌}
 use Rattle.rx_stream.proofs.piece.is_short.Goals as goal
 
 pub returns : goal.returns

@@ -1,9 +1,7 @@
-use Rattle.rx_stream.specs.laws.Flats.{grown, grown-none, grown-zero, grown-stop, grown-full, grown-short, grown-on}
+use Rattle.rx_stream.specs.laws.Flats.{grown}
 use Rattle.rx_stream.specs.Pieces.{piece_of}
 use Rattle.descriptors.specs.Cells.{record_at}
-use Rattle.descriptors.specs.Record.{is_cpu}
-use Rattle.std.proofs.Common.{◌≡◌, ◌+◌, ◌-◌, ◌*◌, ◌≤◌, [], sym, ap, ◌∙◌, arith, rules, le-leb}
-use borrow.Author.Tests.{lt-leb, not-true, not-false}
+use Rattle.std.proofs.Common.{◌≡◌, ◌+◌, ◌-◌, ◌*◌, ◌≤◌, []}
 use Rattle.rx_stream.proofs.piece.piece_of.Given as goal
 
 abbrev pub invariant-loop-at : goal.invariant-loop-at

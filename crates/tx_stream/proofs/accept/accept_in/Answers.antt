@@ -5,7 +5,7 @@ use Rattle.descriptors.specs.Stores.{hand_all}
 use Rattle.descriptors.specs.Cells.{record_at}
 use Rattle.descriptors.specs.declared.walk.Moved.{Moved}
 use Rattle.descriptors.specs.declared.record.TransferDirection.TheVariants.{Out}
-use Rattle.std.proofs.Common.{ℕ, ◌+◌, ◌-◌, ◌%◌, ◌^◌, [], ap, ◌∙◌, rules}
+use Rattle.std.proofs.Common.{ℕ, ◌+◌, ◌-◌, ◌%◌, ◌^◌, [], ap, ◌∙◌}
 use Rattle.tx_stream.proofs.accept.accept_in.Goals as goal
 
 pub overflow_sub-accepted : goal.overflow_sub-accepted

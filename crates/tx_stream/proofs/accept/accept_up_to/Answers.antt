@@ -1,6 +1,6 @@
 use Rattle.descriptors.specs.declared.refusal.Counted.TheVariants as counted
 use Rattle.descriptors.specs.declared.ring.Head.{Head}
-use Rattle.std.proofs.Common.{refl, ap, rules, le-leb}
+use Rattle.std.proofs.Common.{refl, ap, le-leb}
 use borrow.Author.Tests.{lt-leb}
 use Rattle.tx_stream.proofs.accept.accept_up_to.Goals as goal
 

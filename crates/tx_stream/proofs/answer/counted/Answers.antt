@@ -1,5 +1,5 @@
 use Rattle.tx_stream.specs.Faces.{counted_of}
-use Rattle.std.proofs.Common.{sym, ap, rules}
+use Rattle.std.proofs.Common.{sym, ap}
 use Rattle.tx_stream.proofs.answer.counted.Goals as goal
 
 pub returns-in-Refused : goal.returns-in-Refused

@@ -1,5 +1,5 @@
 use Rattle.descriptors.specs.declared.refusal.Counted.{Counted}
-use Rattle.std.proofs.Common.{ap, rules}
+use Rattle.std.proofs.Common.{ap}
 use Rattle.tx_stream.proofs.answer.refused.Goals as goal
 
 pub returns : goal.returns

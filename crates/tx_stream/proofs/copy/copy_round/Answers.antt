@@ -1,5 +1,5 @@
 use Rattle.tx_stream.specs.laws.Pastes.{paste-keeps}
-use Rattle.std.proofs.Common.{ℕ, ◌-◌, List, length, take, drop, sym, ap, ◌∙◌, arith, length-drop, length-take-le, rules}
+use Rattle.std.proofs.Common.{ℕ, ◌-◌, List, length, take, drop, sym, ap, ◌∙◌, arith, length-drop, length-take-le}
 use Rattle.tx_stream.specs.laws.Pastes.{pasted-round}
 use lib.Seq.{paste}
 use Rattle.tx_stream.proofs.copy.copy_round.Goals as goal

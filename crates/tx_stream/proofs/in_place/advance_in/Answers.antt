@@ -8,7 +8,7 @@ use Rattle.tx_stream.specs.laws.Rules.{unsound}
 use Rattle.descriptors.specs.laws.Sound.{ready-split}
 use Rattle.descriptors.specs.Ring.{Ring, ring_of, sound}
 use Rattle.descriptors.specs.declared.ring.Head.{Head}
-use Rattle.std.proofs.Common.{◌≡◌, ℕ, true, false, List, ap, ◌∙◌, rules}
+use Rattle.std.proofs.Common.{◌≡◌, ℕ, true, false, List, ap, ◌∙◌}
 use Rattle.tx_stream.proofs.in_place.advance_in.Goals as goal
 
 pub returns-in_default : goal.returns-in_default
@@ -21,7 +21,7 @@ returns-in_default c =
     let is-unsound : sound Out ring size ≡ false = unsound _ _ _ c.judge-answer.ensures c.in_default.is in
     let count : ℕ = c.args.k in
     let e = is-unsound in
-    rw (advance-no ring size e count) (record { w_after = cells_same st ws; value = c.refused.ensures ∙ ap (λ (x : Counted). record { head = head; answer = x }) (bad-state _ _ c.judge-answer.ensures e); })
+    rw (advance-no ring size e count) (record { w_after = cells_same st ws; value = c.refused.ensures ∙ ap (λ (x : Counted). record { head = head; answer = x }) (bad-state _ _ c.judge-answer.ensures e) })
 
 pub returns : goal.returns
 unfolding advance_of
@@ -34,4 +34,4 @@ returns c =
     let is-sound : sound Out ring size ≡ true = ready-split _ _ c.judge-answer.ensures c.in-Ready.is in
     let count : ℕ = c.args.k in
     let u = up_to st ws head size is-sound _ _ count (c.available-bound.ensures ∙ room-is st ws head size is-sound) in
-    record { w_after = c.accept_up_to.ensures.0 ∙ u.0; value = c.accept_up_to.ensures.1 ∙ u.1; }
+    record { w_after = c.accept_up_to.ensures.0 ∙ u.0; value = c.accept_up_to.ensures.1 ∙ u.1 }

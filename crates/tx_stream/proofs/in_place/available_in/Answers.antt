@@ -6,7 +6,7 @@ use Rattle.tx_stream.specs.laws.Rules.{unsound}
 use Rattle.descriptors.specs.laws.Sound.{ready-split}
 use Rattle.descriptors.specs.Ring.{Ring, ring_of, sound}
 use Rattle.descriptors.specs.declared.ring.Head.{Head}
-use Rattle.std.proofs.Common.{◌≡◌, ℕ, true, false, List, sym, ap, ◌∙◌, rules}
+use Rattle.std.proofs.Common.{◌≡◌, ℕ, true, false, List, sym, ap, ◌∙◌}
 use Rattle.tx_stream.proofs.in_place.available_in.Goals as goal
 
 pub returns-in_default : goal.returns-in_default

@@ -1,6 +1,6 @@
-use Rattle.std.proofs.Common.{◌≡◌, ℕ, ◌-◌, min, true, false, List, ap, ◌∙◌, arith, rules}
+use Rattle.std.proofs.Common.{◌≡◌, ℕ, ◌-◌, min, true, false, List, ap, ◌∙◌, arith}
 use Rattle.descriptors.specs.Walk.{available_in}
-use Rattle.tx_stream.specs.Transmit.{commit_of, offered}
+use Rattle.tx_stream.specs.Transmit.{commit_of}
 use Rattle.tx_stream.specs.laws.Room.{offset-fits, place_in}
 use Rattle.tx_stream.specs.laws.Accepts.{room-is, place_is, up_to}
 use Rattle.tx_stream.specs.laws.Rules.{bad-state, commit-no}
@@ -23,7 +23,7 @@ returns-in_default c =
     let is-unsound : sound Out ring size ≡ false = unsound _ _ _ c.judge-answer.ensures c.in_default.is in
     let count : ℕ = c.args.k in
     let e = is-unsound in
-    rw (commit-no ring size e count) (record { w_after = cells_same st ws; value = c.refused.ensures ∙ ap (λ (x : Counted). record { head = head; answer = x }) (bad-state _ _ c.judge-answer.ensures e); })
+    rw (commit-no ring size e count) (record { w_after = cells_same st ws; value = c.refused.ensures ∙ ap (λ (x : Counted). record { head = head; answer = x }) (bad-state _ _ c.judge-answer.ensures e) })
 
 pub write_position-at-requires : goal.write_position-at-requires
 write_position-at-requires c =
@@ -58,4 +58,4 @@ returns c =
     let e = c.offered-part.ensures ∙ ap (λ (a : ℕ). min a (size - c.write_position-at.result)) (room-is st ws head size is-sound)
     ∙ ap (λ (p : ℕ). min (available_in Out ring) (size - p)) (c.write_position-at.ensures ∙ place_is st ws head size is-sound) in
     let u = up_to st ws head size is-sound _ _ count e in
-    record { w_after = c.accept_up_to.ensures.0 ∙ u.0; value = c.accept_up_to.ensures.1 ∙ u.1; }
+    record { w_after = c.accept_up_to.ensures.0 ∙ u.0; value = c.accept_up_to.ensures.1 ∙ u.1 }

@@ -1,6 +1,6 @@
 use Rattle.tx_stream.specs.laws.Rules.{offer-at, offer-place-no}
 use Rattle.descriptors.specs.Part.{part_from, as_read}
-use Rattle.std.proofs.Common.{◌≡◌, ℕ, ◌+◌, ◌-◌, min, true, false, List, length, take, drop, sym, ap, ◌∙◌, arith, rules}
+use Rattle.std.proofs.Common.{◌≡◌, ℕ, ◌+◌, ◌-◌, min, true, false, List, length, take, drop, sym, ap, ◌∙◌, arith}
 use Rattle.tx_stream.specs.laws.Room.{offset-fits, place_in}
 use Rattle.tx_stream.specs.laws.Accepts.{room-is, place_is}
 use Rattle.tx_stream.specs.laws.Rules.{offer-no, offer-yes}
@@ -23,7 +23,7 @@ returns-in_default c =
     let is-unsound : sound Out ring size ≡ false = unsound _ _ _ c.judge-answer.ensures c.in_default.is in
     let lent : List ℕ = c.args.buffer.now in
     let e = is-unsound in
-    record { result_value = sym (offer-no ring lent e); ref_ptr_value = sym (offer-place-no ring lent (as_read c.args.buffer) e); }
+    record { result_value = sym (offer-no ring lent e); ref_ptr_value = sym (offer-place-no ring lent (as_read c.args.buffer) e) }
 
 pub write_position-at-requires : goal.write_position-at-requires
 write_position-at-requires c =
@@ -84,5 +84,8 @@ returns c =
     let place : c.write_position-at.result ≡ write_at ring = c.write_position-at.ensures ∙ place_is st ws head size is-sound in
     let free : c.offered.result ≡ offered ring size = c.offered.ensures ∙ ap (λ (a : ℕ). min a (size - c.write_position-at.result)) (room-is st ws head size is-sound)
     ∙ ap (λ (p : ℕ). min (available_in Out ring) (size - p)) place in
-    let k : c.write_position-at.result + c.offered.result - c.write_position-at.result ≡ offered ring size = omega (arith, free) in record { result_value = ap (λ (n : ℕ). take n (drop c.write_position-at.result lent)) k ∙ ap (λ (p : ℕ). take (offered ring size) (drop p lent)) place
-          ∙ sym (offer-yes ring lent is-sound); ref_ptr_value = ap (λ (p : ℕ). part_from (as_read c.args.buffer) p) (place ∙ sym (offer-at ring lent is-sound)); }
+    let k : c.write_position-at.result + c.offered.result - c.write_position-at.result ≡ offered ring size = omega (arith, free) in record {
+      result_value = ap (λ (n : ℕ). take n (drop c.write_position-at.result lent)) k ∙ ap (λ (p : ℕ). take (offered ring size) (drop p lent)) place
+          ∙ sym (offer-yes ring lent is-sound);
+      ref_ptr_value = ap (λ (p : ℕ). part_from (as_read c.args.buffer) p) (place ∙ sym (offer-at ring lent is-sound));
+    }

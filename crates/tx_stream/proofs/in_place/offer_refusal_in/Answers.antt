@@ -1,5 +1,4 @@
 use Rattle.tx_stream.specs.Transmit.{offer_refusal_of}
-use Rattle.std.proofs.Common.{rules}
 use Rattle.tx_stream.proofs.in_place.offer_refusal_in.Goals as goal
 
 pub returns : goal.returns

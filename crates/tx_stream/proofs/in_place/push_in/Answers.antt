@@ -5,7 +5,7 @@ use Rattle.tx_stream.specs.Faces.{accepting_of, filled_cells, filled_head}
 use Rattle.tx_stream.specs.Transmit.{paste_round, write_at}
 use Rattle.descriptors.specs.laws.Words.{cells_same}
 use Rattle.descriptors.specs.Walk.{available_in}
-use Rattle.std.proofs.Common.{◌≡◌, ℕ, min, true, false, List, length, take, sym, ap, ◌∙◌, arith, rules}
+use Rattle.std.proofs.Common.{◌≡◌, ℕ, min, true, false, List, length, take, sym, ap, ◌∙◌, arith}
 use Rattle.descriptors.specs.declared.refusal.Counted.TheVariants as counted
 use Rattle.descriptors.specs.declared.refusal.Counted.{Counted}
 use Rattle.descriptors.specs.declared.record.TransferDirection.TheVariants.{Out}
@@ -72,12 +72,12 @@ returns c =
     record {
       w_after = rw y (c.accept_in.ensures.0 ∙ ap (filled_cells ws head) taken ∙ filled-cells st ws head size is-sound k);
       value =
-        ap (λ (x : Head). record { head = x; answer = counted.Bytes c.least-k.result }) c.accept_in.ensures.1
-            ∙ ap (λ (k : ℕ). record { head = filled_head ws head k; answer = counted.Bytes k }) taken
-            ∙ ap (λ (x : Head). record { head = x; answer = counted.Bytes k }) (filled-head st ws head size is-sound k)
-            ∙ ap accepting_of (sym y);
+          ap (λ (x : Head). record { head = x; answer = counted.Bytes c.least-k.result }) c.accept_in.ensures.1
+          ∙ ap (λ (k : ℕ). record { head = filled_head ws head k; answer = counted.Bytes k }) taken
+          ∙ ap (λ (x : Head). record { head = x; answer = counted.Bytes k }) (filled-head st ws head size is-sound k)
+          ∙ ap accepting_of (sym y);
       buffer_after =
-        c.copy_round.ensures ∙ ap (λ (p : ℕ). paste_round lent p (take c.least-k.result bytes)) place
-            ∙ ap (λ (k : ℕ). paste_round lent (write_at ring) (take k bytes)) taken
-            ∙ sym (push-into-yes ring lent bytes is-sound);
+          c.copy_round.ensures ∙ ap (λ (p : ℕ). paste_round lent p (take c.least-k.result bytes)) place
+          ∙ ap (λ (k : ℕ). paste_round lent (write_at ring) (take k bytes)) taken
+          ∙ sym (push-into-yes ring lent bytes is-sound);
     }

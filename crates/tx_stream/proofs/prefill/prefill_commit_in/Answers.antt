@@ -2,7 +2,7 @@ use Rattle.tx_stream.specs.laws.Rules.{bad-state, prefill-commit-no, prefill-com
 use Rattle.tx_stream.specs.Faces.{accepting_of}
 use Rattle.descriptors.specs.laws.Sound.{split-facts}
 use Rattle.descriptors.specs.declared.refusal.Counted.{Counted}
-use Rattle.std.proofs.Common.{◌≡◌, ℕ, ◌≤◌, true, false, List, sym, ap, ◌∙◌, arith, rules, le-leb}
+use Rattle.std.proofs.Common.{◌≡◌, ℕ, ◌≤◌, true, false, List, sym, ap, ◌∙◌, arith, le-leb}
 use borrow.Author.Tests.{lt-leb}
 use Rattle.tx_stream.specs.laws.Rules.{unsound}
 use Rattle.descriptors.specs.laws.Sound.{ready-split}

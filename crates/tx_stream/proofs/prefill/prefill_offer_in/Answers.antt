@@ -2,7 +2,7 @@ use Rattle.tx_stream.specs.laws.Rules.{prefill-offer-at, prefill-place-no}
 use Rattle.descriptors.specs.Part.{part_from, as_read}
 use Rattle.tx_stream.specs.laws.Rules.{prefill-offer-no, prefill-offer-yes}
 use Rattle.descriptors.specs.laws.Sound.{split-facts}
-use Rattle.std.proofs.Common.{◌≡◌, ℕ, ◌-◌, ◌≤◌, true, false, List, length, drop, sym, ap, ◌∙◌, arith, length-drop, take_all, rules}
+use Rattle.std.proofs.Common.{◌≡◌, ℕ, ◌-◌, ◌≤◌, true, false, List, length, drop, sym, ap, ◌∙◌, arith, length-drop, take_all}
 use Rattle.tx_stream.specs.laws.Rules.{unsound}
 use Rattle.descriptors.specs.laws.Sound.{ready-split}
 use Rattle.descriptors.specs.Ring.{Ring, ring_of, split_sound}
@@ -19,7 +19,7 @@ returns-in_default c =
     let is-unsound : split_sound ring size ≡ false = unsound _ _ _ c.judge_split-answer.ensures c.in_default.is in
     let lent : List ℕ = c.args.buffer.now in
     let e = is-unsound in
-    record { result_value = sym (prefill-offer-no ring lent e); ref_ptr_value = sym (prefill-place-no ring lent (as_read c.args.buffer) e); }
+    record { result_value = sym (prefill-offer-no ring lent e); ref_ptr_value = sym (prefill-place-no ring lent (as_read c.args.buffer) e) }
 
 pub slice_bounds-result-count : goal.slice_bounds-result-count
 slice_bounds-result-count c =
@@ -52,5 +52,8 @@ returns c =
     let ring : Ring = ring_of st ws head in
     let is-sound : split_sound ring size ≡ true = ready-split _ _ c.judge_split-answer.ensures c.in-Ready.is in
     let lent : List ℕ = c.args.buffer.now in
-    record { result_value = take_all (size - head.pre_filled) (drop head.pre_filled lent) (omega (arith, length-drop head.pre_filled lent))
-          ∙ sym (prefill-offer-yes ring lent is-sound); ref_ptr_value = ap (λ (p : ℕ). part_from (as_read c.args.buffer) p) (sym (prefill-offer-at ring lent is-sound)); }
+    record {
+      result_value = take_all (size - head.pre_filled) (drop head.pre_filled lent) (omega (arith, length-drop head.pre_filled lent))
+          ∙ sym (prefill-offer-yes ring lent is-sound);
+      ref_ptr_value = ap (λ (p : ℕ). part_from (as_read c.args.buffer) p) (sym (prefill-offer-at ring lent is-sound));
+    }

@@ -1,5 +1,4 @@
 use Rattle.tx_stream.specs.Transmit.{prefill_offer_refusal_of}
-use Rattle.std.proofs.Common.{rules}
 use Rattle.tx_stream.proofs.prefill.prefill_offer_refusal_in.Goals as goal
 
 pub returns : goal.returns

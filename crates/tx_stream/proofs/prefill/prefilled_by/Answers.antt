@@ -1,6 +1,6 @@
 use Rattle.tx_stream.specs.laws.Rules.{tally-wraps}
 use Rattle.descriptors.specs.declared.refusal.Counted.TheVariants as counted
-use Rattle.std.proofs.Common.{ℕ, ◌+◌, ap, ◌∙◌, rules}
+use Rattle.std.proofs.Common.{ℕ, ◌+◌, ap, ◌∙◌}
 use Rattle.tx_stream.proofs.prefill.prefilled_by.Goals as goal
 
 pub returns : goal.returns

@@ -2,7 +2,7 @@ use Rattle.tx_stream.specs.laws.Prepares.{reached-none, reached-here, reached-on
 use Rattle.tx_stream.specs.Transmit.{Reached, reached}
 use Rattle.descriptors.specs.declared.record.DmaDescriptor.{DmaDescriptor}
 use Rattle.descriptors.specs.Cells.{record_at}
-use Rattle.std.proofs.Common.{◌≡◌, ℕ, ◌+◌, ◌-◌, ◌≤◌, [], sym, ap, ◌∙◌, arith, rules}
+use Rattle.std.proofs.Common.{◌≡◌, ℕ, ◌+◌, ◌-◌, [], sym, ap, ◌∙◌, arith}
 use Rattle.tx_stream.proofs.prepare.end_of.Goals as goal
 
 pub loop-d-init : goal.loop-d-init

@@ -1,8 +1,6 @@
-use Rattle.tx_stream.specs.laws.Prepares.{reached-none, reached-here, reached-on}
-use Rattle.tx_stream.specs.Transmit.{Reached, reached}
-use Rattle.descriptors.specs.declared.record.DmaDescriptor.{DmaDescriptor}
+use Rattle.tx_stream.specs.Transmit.{reached}
 use Rattle.descriptors.specs.Cells.{record_at}
-use Rattle.std.proofs.Common.{◌≡◌, ℕ, ◌+◌, ◌-◌, ◌≤◌, [], sym, ap, ◌∙◌, arith, rules}
+use Rattle.std.proofs.Common.{◌≡◌, ◌-◌, ◌≤◌, []}
 use Rattle.tx_stream.proofs.prepare.end_of.Given as goal
 
 abbrev pub invariant-loop-d : goal.invariant-loop-d

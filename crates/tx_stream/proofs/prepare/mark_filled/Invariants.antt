@@ -1,8 +1,6 @@
 use Rattle.tx_stream.specs.Faces.{fill_cells}
-use Rattle.descriptors.specs.laws.Updates.{up_none, up_more}
-use Rattle.descriptors.specs.Cells.{put_length, put_eof}
 use Rattle.descriptors.specs.Record.{up_to}
-use Rattle.std.proofs.Common.{◌≡◌, ℕ, ◌-◌, ◌≤◌, true, List, length, sym, refl, ap, ◌∙◌, arith, rules}
+use Rattle.std.proofs.Common.{◌≡◌, ◌-◌, ◌≤◌, length}
 use Rattle.tx_stream.proofs.prepare.mark_filled.Given as goal
 
 abbrev pub invariant-loop-d : goal.invariant-loop-d

@@ -2,7 +2,7 @@ use Rattle.tx_stream.specs.laws.Prepares.{reached-to, marked-none, marked_all, m
 use Rattle.tx_stream.specs.Faces.{fill_cells, cut_cells}
 use Rattle.descriptors.specs.Cells.{record_at, put_length, put_eof}
 use Rattle.descriptors.specs.Record.{up_to}
-use Rattle.std.proofs.Common.{◌≡◌, ℕ, true, List, [], sym, ap, ◌∙◌, arith, rules}
+use Rattle.std.proofs.Common.{◌≡◌, ℕ, true, List, [], sym, ap, ◌∙◌, arith}
 use Rattle.tx_stream.proofs.prepare.mark_tx_stream_descriptors_ready.Goals as goal
 
 pub returns-then-bytes_pushed-eq0 : goal.returns-then-bytes_pushed-eq0

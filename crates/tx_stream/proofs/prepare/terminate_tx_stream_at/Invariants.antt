@@ -1,7 +1,6 @@
-use Rattle.tx_stream.specs.laws.Prepares.{cut-before, cut-first, cut-more}
 use Rattle.tx_stream.specs.Faces.{cut_cells}
 use Rattle.descriptors.specs.Record.{up_to}
-use Rattle.std.proofs.Common.{◌≡◌, ℕ, ◌-◌, ◌≤◌, List, length, refl, ◌∙◌, ⊎_elim, arith, rules}
+use Rattle.std.proofs.Common.{◌≡◌, ℕ, ◌-◌, ◌≤◌, List, length}
 use Rattle.tx_stream.proofs.prepare.terminate_tx_stream_at.Given as goal
 
 abbrev pub invariant-loop-i : goal.invariant-loop-i

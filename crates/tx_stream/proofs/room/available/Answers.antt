@@ -1,5 +1,5 @@
 use Rattle.tx_stream.specs.Faces.{room_of}
-use Rattle.std.proofs.Common.{ℕ, ◌-◌, ap, arith, rules}
+use Rattle.std.proofs.Common.{ℕ, ◌-◌, ap, arith}
 use Rattle.tx_stream.proofs.room.available.Goals as goal
 
 pub returns-then-total-h : goal.returns-then-total-h

@@ -1,7 +1,7 @@
 use Rattle.rx_stream.specs.declared.buf.Built.{Built}
 use Rattle.descriptors.specs.declared.refusal.Done.{Done}
 use Rattle.descriptors.specs.declared.ring.Head.{Head}
-use Rattle.std.proofs.Common.{◌≡◌, ℕ, List, refl, rules}
+use Rattle.std.proofs.Common.{◌≡◌, ℕ, List, refl}
 use Rattle.rx_stream.proofs.buf.DmaRxStreamBuf.new.Goals as goal
 
 same : {s t v w : List ℕ} {g h : Head} {d e : Done} → s ≡ t → v ≡ w → g ≡ h → d ≡ e

@@ -1,7 +1,7 @@
 use Rattle.descriptors.specs.declared.ring.Headed.{Headed}
 use Rattle.rx_stream.specs.Receive.{prepare_of}
 use Rattle.descriptors.specs.Ring.{ring_of, head_of}
-use Rattle.std.proofs.Common.{ℕ, List, ap, ◌∙◌, rules}
+use Rattle.std.proofs.Common.{ℕ, List, ap, ◌∙◌}
 use Rattle.rx_stream.proofs.buf.DmaRxStreamBuf.prepare.Goals as goal
 
 pub returns : goal.returns

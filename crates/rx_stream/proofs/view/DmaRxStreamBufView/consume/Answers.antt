@@ -1,7 +1,7 @@
 use Rattle.rx_stream.specs.declared.in_place.Consuming.{Consuming}
 use Rattle.rx_stream.specs.Receive.{consume_of}
 use Rattle.descriptors.specs.Ring.{ring_of, head_of}
-use Rattle.std.proofs.Common.{ℕ, List, ap, ◌∙◌, rules}
+use Rattle.std.proofs.Common.{ℕ, List, ap, ◌∙◌}
 use Rattle.rx_stream.proofs.view.DmaRxStreamBufView.consume.Goals as goal
 
 pub returns : goal.returns

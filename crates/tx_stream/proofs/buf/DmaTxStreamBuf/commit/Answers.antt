@@ -1,7 +1,6 @@
 use Rattle.tx_stream.specs.Transmit.{prefill_commit_of}
 use Rattle.tx_stream.specs.laws.Values.{pushed-by, commit-keeps}
 use Rattle.tx_stream.specs.Values.{buf_ring}
-use Rattle.std.proofs.Common.{rules}
 use Rattle.tx_stream.proofs.buf.DmaTxStreamBuf.commit.Goals as goal
 
 pub returns : goal.returns

@@ -1,5 +1,5 @@
 use Rattle.tx_stream.specs.laws.Values.{built-by}
-use Rattle.std.proofs.Common.{length, rules}
+use Rattle.std.proofs.Common.{length}
 use Rattle.tx_stream.proofs.buf.DmaTxStreamBuf.new.Goals as goal
 
 pub returns : goal.returns

@@ -1,5 +1,4 @@
 use Rattle.tx_stream.specs.laws.Values.{prepared-by}
-use Rattle.std.proofs.Common.{rules}
 use Rattle.tx_stream.proofs.buf.DmaTxStreamBuf.prepare.Goals as goal
 
 pub returns : goal.returns

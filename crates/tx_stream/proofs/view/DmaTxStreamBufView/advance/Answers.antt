@@ -1,7 +1,6 @@
 use Rattle.tx_stream.specs.Values.{view_ring}
 use Rattle.tx_stream.specs.Transmit.{advance_of}
 use Rattle.tx_stream.specs.laws.Values.{advanced-by}
-use Rattle.std.proofs.Common.{rules}
 use Rattle.tx_stream.proofs.view.DmaTxStreamBufView.advance.Goals as goal
 
 pub returns : goal.returns

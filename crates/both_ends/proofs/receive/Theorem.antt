@@ -26,13 +26,13 @@ use Rattle.ring_order.specs.Queue.{idxs, helds, cat, first, ground}
 use Rattle.ring_order.specs.Order.{Order, Stands, stands-below, queued-iff, queue-turn, none-queued}
 use Rattle.ring_order.specs.Skeleton.{Among, stopped-not, Move, steps, gives, InTurn, goes_on, no-skip, within-n, before-stop}
 use Rattle.both_ends.specs.Demand3.{World, run, built, prepared, RxAction, rx_look, consume, pop, fill, rx_step, unread_at, fills, Receive}
-use Rattle.both_ends.specs.Shared.{Keeps, life, agrees}
-use Rattle.both_ends.specs.receive.Good.{Good, Leads, good-sound, good-standing, good-ends, good-available, idle}
-use Rattle.both_ends.specs.receive.Take.{consume-good, pop-good}
-use Rattle.both_ends.specs.receive.Fill.{fill-good, stands-stopped, step-stopped}
+use Rattle.both_ends.proofs.Shared.{Keeps, life, agrees}
+use Rattle.both_ends.proofs.receive.Good.{Good, Leads, good-sound, good-standing, good-ends, good-available, idle}
+use Rattle.both_ends.proofs.receive.Take.{consume-good, pop-good}
+use Rattle.both_ends.proofs.receive.Fill.{fill-good, stands-stopped, step-stopped}
 use Rattle.both_ends.specs.receive.Peek.{peek-front, peek-some}
-use Rattle.both_ends.specs.receive.Start.{start-good}
-use Rattle.both_ends.specs.receive.Reach.{mem-of, inside-cursor, Holds, unread, free, bridge, reach-exact}
+use Rattle.both_ends.proofs.receive.Start.{start-good}
+use Rattle.both_ends.proofs.receive.Reach.{mem-of, inside-cursor, Holds, unread, free, bridge, reach-exact}
 
 -- every action leads from a good world to a good one, by one of the two moves
 step-good : (n len q : ℕ) (w : World) → Good n len q w → (a : RxAction) → Leads n len q w (rx_step w a)

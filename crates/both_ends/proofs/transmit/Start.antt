@@ -29,9 +29,9 @@ use Rattle.ring_order.specs.Order.{Order}
 use Rattle.tx_stream.specs.Transmit.{Marked, marked_ready, prepared_as, prepare_of}
 use Rattle.both_ends.specs.Demand3.{World, world, prepared, pending_in}
 use Rattle.both_ends.specs.transmit.Blocks.{Edge, inner, last, after-inner, round-next, round-join, blocks}
-use Rattle.both_ends.specs.transmit.Prefilling.{Filling}
+use Rattle.both_ends.proofs.transmit.Prefilling.{Filling}
 use Rattle.both_ends.specs.transmit.Prepared.{following-last, following-inner, Held, short, whole, Marks, marks}
-use Rattle.both_ends.specs.transmit.Trace.{Fine, order-queued}
+use Rattle.both_ends.proofs.transmit.Trace.{Fine, order-queued}
 
 -- ---- records in a row
 

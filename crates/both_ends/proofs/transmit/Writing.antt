@@ -27,8 +27,8 @@ use Rattle.tx_stream.specs.Transmit.{paste_round, write_at}
 use Rattle.both_ends.specs.Demand3.{queued_in, pending_in}
 use Rattle.both_ends.specs.transmit.Turned.{turned, turned-length, turned-paste}
 use Rattle.both_ends.specs.transmit.Blocks.{cat-view, part_in}
-use Rattle.both_ends.specs.transmit.Bytes.{sends, offset-out, spans-cat, stored_of, seen, into, queued-is, pending-is, standing-is, available-is}
-use Rattle.both_ends.specs.transmit.Accepting.{into-run}
+use Rattle.both_ends.proofs.transmit.Bytes.{sends, offset-out, spans-cat, stored_of, seen, into, queued-is, pending-is, standing-is, available-is}
+use Rattle.both_ends.proofs.transmit.Accepting.{into-run}
 
 -- ---- two parts of a list, cut at the same place
 

@@ -19,7 +19,7 @@ use Rattle.ring_order.specs.Queue.{idxs, helds, first, Linked, Inside, parts-len
 use Rattle.ring_order.specs.Order.{Order, Stands, run-cell, run-cpu, queue-below, queue-dma, queued-iff, locate}
 use Rattle.ring_order.specs.Skeleton.{Among, stopped-not}
 use Rattle.both_ends.specs.Demand3.{World, reached, unread_at}
-use Rattle.both_ends.specs.receive.Good.{Good}
+use Rattle.both_ends.proofs.receive.Good.{Good}
 
 -- ---- the library's word for a member of a list, and the one that goes by cases
 

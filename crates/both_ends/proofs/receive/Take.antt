@@ -22,7 +22,7 @@ use Rattle.ring_order.specs.Order.{order-gives, order-give}
 use Rattle.ring_order.specs.Skeleton.{gives}
 use Rattle.both_ends.specs.Demand3.{World, world, told, told_took, rx_step, consume, pop}
 use Rattle.ring_order.specs.Tally.{goes-round}
-use Rattle.both_ends.specs.receive.Good.{Good, Leads, good-sound, good-ends, idle}
+use Rattle.both_ends.proofs.receive.Good.{Good, Leads, good-sound, good-ends, idle}
 
 -- the ring moves on, and bs are taken
 abbrev takes : World → Ring → List ℕ → World

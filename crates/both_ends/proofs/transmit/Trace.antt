@@ -35,11 +35,11 @@ use Rattle.ring_order.specs.Places.{turn}
 use Rattle.device.specs.Device.{Stepped, transmit_of, transmit_over}
 use Rattle.tx_stream.specs.Transmit.{write_at, offered, offer_of, push_of, push_into, accepted_up_to, advance_of, commit_of}
 use Rattle.both_ends.specs.Demand3.{World, told, stands_on, unless_refused, called, stepped, writes, TxAction, tx_look, push, advance, commit, write, send, tx_step, queued_in, pending_in}
-use Rattle.both_ends.specs.Shared.{with_bytes, alone}
-use Rattle.both_ends.specs.transmit.Prefilling.{counts-more, part-written}
-use Rattle.both_ends.specs.transmit.Bytes.{sends, sends-append, sends-cpus, seen, queued-is}
-use Rattle.both_ends.specs.transmit.Accepting.{advanced-count, advanced-tally, advanced-outgoing}
-use Rattle.both_ends.specs.transmit.Calls.{Kept, accepted-up-to, offer-kept, many, push-is, push_kept, push-stands}
+use Rattle.both_ends.proofs.Shared.{with_bytes, alone}
+use Rattle.both_ends.proofs.transmit.Prefilling.{counts-more, part-written}
+use Rattle.both_ends.proofs.transmit.Bytes.{sends, sends-append, sends-cpus, seen, queued-is}
+use Rattle.both_ends.proofs.transmit.Accepting.{advanced-count, advanced-tally, advanced-outgoing}
+use Rattle.both_ends.proofs.transmit.Calls.{Kept, accepted-up-to, offer-kept, many, push-is, push_kept, push-stands}
 use Rattle.both_ends.specs.transmit.Sending.{send-stopped, send-on, over-on}
 
 -- ---- the invariant: the queue is in order, and each of its records has bytes

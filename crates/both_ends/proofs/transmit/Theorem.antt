@@ -16,11 +16,11 @@ use Rattle.ring_order.specs.Order.{Stands, stands-below}
 use Rattle.device.specs.Device.{Stepped, transmit_over}
 use Rattle.descriptors.specs.Ring.{new_of}
 use Rattle.both_ends.specs.Demand3.{World, run, built, prepared, Prefill, prefill, TxAction, tx_look, push, advance, commit, write, send, tx_step, queued_in, Transmit}
-use Rattle.both_ends.specs.Shared.{Keeps, life, agrees}
-use Rattle.both_ends.specs.transmit.Prefilling.{Filling, built-fills}
+use Rattle.both_ends.proofs.Shared.{Keeps, life, agrees}
+use Rattle.both_ends.proofs.transmit.Prefilling.{Filling, built-fills}
 use Rattle.both_ends.specs.transmit.Sending.{send-stopped}
-use Rattle.both_ends.specs.transmit.Trace.{Fine, fine-passes, order-queued, sends_by, Made, step-made}
-use Rattle.both_ends.specs.transmit.Start.{start_fine}
+use Rattle.both_ends.proofs.transmit.Trace.{Fine, fine-passes, order-queued, sends_by, Made, step-made}
+use Rattle.both_ends.proofs.transmit.Start.{start_fine}
 
 -- ---- nothing is queued exactly when the queue has no record
 

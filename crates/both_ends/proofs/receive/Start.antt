@@ -19,7 +19,7 @@ use Rattle.ring_order.specs.Queue.{idxs, first}
 use Rattle.ring_order.specs.Order.{Order}
 use Rattle.ring_order.specs.Begin.{new-ready, new_split, linked-record, linked-length, linked-view, view-zero, following-below}
 use Rattle.both_ends.specs.Demand3.{World, world, built, prepared}
-use Rattle.both_ends.specs.receive.Good.{Good}
+use Rattle.both_ends.proofs.receive.Good.{Good}
 
 -- ---- `prepare`
 

@@ -24,7 +24,7 @@ use Rattle.ring_order.specs.Queue.{cat, cat-append, join, cpu_run, spans, bare, 
 use Rattle.both_ends.specs.Demand3.{queued_in, pending_in}
 use Rattle.ring_order.specs.Handing.{Shows, shows-turned}
 use Rattle.ring_order.specs.Walking.{run-append, Into, Halts, Reaches, reaches}
-use Rattle.both_ends.specs.transmit.Bytes.{sends, sends-append, sends-same, sends-cpus, sends-handed, spans-cat, stored_of, seen, into, queued-is, pending-is, standing-is}
+use Rattle.both_ends.proofs.transmit.Bytes.{sends, sends-append, sends-same, sends-cpus, sends-handed, spans-cat, stored_of, seen, into, queued-is, pending-is, standing-is}
 
 -- ---- cells but for their links, and cells handed over
 

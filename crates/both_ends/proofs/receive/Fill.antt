@@ -29,8 +29,8 @@ use Rattle.ring_order.specs.Queue.{idxs, helds, cat, cat-append, first, inside-c
 use Rattle.ring_order.specs.Order.{Order, Head, head_at, head-stored, head-next, order-step, first-none, stands-below}
 use Rattle.ring_order.specs.Skeleton.{steps}
 use Rattle.both_ends.specs.Demand3.{World, told_done, stands_on, stepped, rx_step, fill}
-use Rattle.both_ends.specs.Shared.{alone}
-use Rattle.both_ends.specs.receive.Good.{Good, Leads, good-sound, idle}
+use Rattle.both_ends.proofs.Shared.{alone}
+use Rattle.both_ends.proofs.receive.Good.{Good, Leads, good-sound, idle}
 
 -- a cell that was filled
 abbrev fill_c : Cell → List ℕ → Bool → Cell

@@ -14,8 +14,8 @@ use Rattle.ring_order.specs.Shape.{Sound, of-sound}
 use Rattle.tx_stream.specs.Transmit.{paste_round, write_at, offered, offer_of, push_of, push_into, accepted_up_to}
 use Rattle.both_ends.specs.Demand3.{queued_in, pending_in}
 use Rattle.both_ends.specs.transmit.Turned.{turned, turned-paste, round-low, round-length}
-use Rattle.both_ends.specs.transmit.Accepting.{advanced-outgoing}
-use Rattle.both_ends.specs.transmit.Writing.{write-at, write-in, run_in, run-available, turned-written, written-queued, written-pending, written_stands}
+use Rattle.both_ends.proofs.transmit.Accepting.{advanced-outgoing}
+use Rattle.both_ends.proofs.transmit.Writing.{write-at, write-in, run_in, run-available, turned-written, written-queued, written-pending, written_stands}
 
 -- bytes were written, and what is queued and what is pending stayed
 pub record Kept (r : Ring) (b b' : List ℕ) : Type 0 where

@@ -26,7 +26,7 @@ use Rattle.ring_order.specs.Shape.{Laid, laid_of, of-laid}
 use Rattle.tx_stream.specs.Transmit.{prefilled_by, prefill_of, prefill_into, prefill_offer_of, prefill_commit_of}
 use Rattle.ring_order.specs.Tally.{goes-round}
 use Rattle.both_ends.specs.Demand3.{World, world, told, called, writes, run, built, Prefill, pre_push, pre_write, pre_commit, prefill}
-use Rattle.both_ends.specs.Shared.{with_bytes}
+use Rattle.both_ends.proofs.Shared.{with_bytes}
 
 -- the tally after m bytes more
 pub counts-more : (t m : ℕ) (a s : List ℕ) → t ≡ length a % 2 ^ 32 → length s ≡ m → (t + m) % 2 ^ 32 ≡ length (a ++ s) % 2 ^ 32

@@ -1,0 +1,4 @@
+pub mod Shared
+pub mod receive
+pub mod transmit
+pub mod Theorem

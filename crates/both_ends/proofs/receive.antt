@@ -1,0 +1,6 @@
+pub mod Good
+pub mod Take
+pub mod Fill
+pub mod Start
+pub mod Reach
+pub mod Theorem
