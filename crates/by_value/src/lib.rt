@@ -18,7 +18,7 @@ use rx_stream::view::DmaRxStreamBufView;
 use tx_stream::view::DmaTxStreamBufView;
 
 #[repr(C)]
-#[derive(Drop)]
+#[derive(Clone, Copy)]
 pub struct Ring {
     pub starts: [u32; LIMIT],
     pub cells: [u16; CELLS],
@@ -30,7 +30,7 @@ pub struct Ring {
 }
 
 #[repr(C)]
-#[derive(Drop)]
+#[derive(Clone, Copy)]
 pub struct Answered {
     pub ring: Ring,
     pub bytes: usize,

@@ -1,3 +1,2 @@
 // What ties every public call down: specs only.
 #![tactic(auto)]
-

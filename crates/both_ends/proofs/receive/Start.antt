@@ -2,7 +2,7 @@
 use Rattle.std.specs.Prelude.{◌≡◌, refl, true, List, [], ℕ, zero, suc, ◌^◌, ◌<◌, length}
 use Rattle.std.proofs.Common.{sym, ◌∙◌, ap, subst, inr, arith}
 use Rattle.std.proofs.Math.Nat.{zero-mod}
-use Rattle.descriptors.specs.Record.{record_in, linked}
+use Rattle.descriptors.specs.Record.{record_in}
 use Rattle.descriptors.specs.Split.{laid_out}
 use Rattle.descriptors.specs.Ring.{Ring, fresh, new_of, split_sound, linked_all}
 use Rattle.descriptors.specs.declared.record.Next.TheVariants.{At}

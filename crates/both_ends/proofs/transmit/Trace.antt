@@ -37,7 +37,7 @@ use Rattle.tx_stream.specs.Transmit.{write_at, offered, offer_of, push_of, push_
 use Rattle.both_ends.specs.Demand3.{World, told, stands_on, unless_refused, called, stepped, writes, TxAction, tx_look, push, advance, commit, write, send, tx_step, queued_in, pending_in}
 use Rattle.both_ends.proofs.Shared.{with_bytes, alone}
 use Rattle.both_ends.proofs.transmit.Prefilling.{counts-more, part-written}
-use Rattle.both_ends.proofs.transmit.Bytes.{sends, sends-append, sends-cpus, seen, queued-is}
+use Rattle.both_ends.proofs.transmit.Bytes.{sends, sends-append, sends-cpus, queued-is}
 use Rattle.both_ends.proofs.transmit.Accepting.{advanced-count, advanced-tally, advanced-outgoing}
 use Rattle.both_ends.proofs.transmit.Calls.{Kept, accepted-up-to, offer-kept, many, push-is, push_kept, push-stands}
 use Rattle.both_ends.specs.transmit.Sending.{send-stopped, send-on, over-on}
