@@ -20,13 +20,13 @@ pub refused-same : (v : DmaRxStreamBufView) (c : Cursor) (len k : ℕ) → accep
 unfolding consume_of consume_from
 refused-same v c len k e = rw e refl
 
--- accepted, it is the by_value consume of the ring at the lent cursor, and the cursor is where that ring's now stands
+-- accepted, it is the by-value consume of the ring at the lent cursor, and the cursor is where that ring's now stands
 pub accepted-moves : (v : DmaRxStreamBufView) (c : Cursor) (len k : ℕ) → accepts v c len ≡ true
     → consume_from v c len k ≡ record { cursor = cursor_of (consume_by (standing_at v c) len k).ring.head; done = consume_by (standing_at v c) len k }
 unfolding consume_of consume_from
 accepted-moves v c len k e = rw e refl
 
--- a lent cursor that is the ring's own makes it the by_value consume, refusals too
+-- a lent cursor that is the ring's own makes it the by-value consume, refusals too
 pub own-cursor : (v : DmaRxStreamBufView) → standing_at v (cursor_of v.head) ≡ v
 own-cursor v = refl
 

@@ -9,6 +9,7 @@ use lent::cursor::Cursor;
 use rx_stream::Took;
 use rx_stream::buf::DmaRxStreamBuf;
 use rx_stream::view::{Consumed, DmaRxStreamBufView};
+use std::io;
 
 // The buffer of row D.
 const LEN: usize = 14;
@@ -108,13 +109,14 @@ fn wanted(value: Consumed, given: DmaRxStreamBufView) -> Consumed {
 
 // k bytes taken from (i, o) on, of a ring of n: the ring that the by-value consume leaves.
 fn run_case(
+    rt: &impl Print,
     name: &[u8],
     ring: DmaRxStreamBufView,
     n: usize,
     i: usize,
     o: usize,
     k: usize,
-) -> DmaRxStreamBufView {
+) -> io::Result<DmaRxStreamBufView> {
     let astray = standing(ring, n, 9, 99);
     let start = Cursor {
         record: i,
@@ -131,21 +133,24 @@ fn run_case(
     let g = after.head;
     let answer = lent.answer;
     let c = same::numbers(answer);
-    crate::say(name);
-    crate::say(b" answered");
-    crate::show(c.refused as usize);
-    crate::say(b", taken");
-    crate::show(c.taken);
-    crate::say(b", back");
-    crate::show(c.back);
-    crate::say(b", cursor");
-    crate::show(at.record);
-    crate::show(at.offset);
-    crate::say(b", the ring at");
-    crate::show(g.descriptor_idx);
-    crate::show(g.descriptor_offset);
-    crate::verdict(same_at(at, h) && same_consumed(lent, wanted(value, astray)));
-    left
+    crate::say(rt, name)?;
+    crate::say(rt, b" answered")?;
+    crate::show(rt, c.refused as usize)?;
+    crate::say(rt, b", taken")?;
+    crate::show(rt, c.taken)?;
+    crate::say(rt, b", back")?;
+    crate::show(rt, c.back)?;
+    crate::say(rt, b", cursor")?;
+    crate::show(rt, at.record)?;
+    crate::show(rt, at.offset)?;
+    crate::say(rt, b", the ring at")?;
+    crate::show(rt, g.descriptor_idx)?;
+    crate::show(rt, g.descriptor_offset)?;
+    crate::verdict(
+        rt,
+        same_at(at, h) && same_consumed(lent, wanted(value, astray)),
+    )?;
+    Ok(left)
 }
 
 fn same_at(at: Cursor, h: Head) -> bool {
@@ -155,24 +160,25 @@ fn same_at(at: Cursor, h: Head) -> bool {
     at.offset == h.descriptor_offset
 }
 
-pub fn run() {
+pub fn run(rt: &impl Print) -> io::Result<()> {
     let empty = ring_of_d();
     let first = filled(empty, 0, 3, false);
     let ring = filled(first, 1, 2, true);
-    let one = run_case(b"consume 4", ring, 4, 0, 0, 4);
-    let two = run_case(b"consume 4", one, 4, 1, 1, 4);
+    let one = run_case(rt, b"consume 4", ring, 4, 0, 0, 4)?;
+    let two = run_case(rt, b"consume 4", one, 4, 1, 1, 4)?;
     let third = filled(two, 2, 3, false);
     let full = filled(third, 3, 5, false);
-    let three = run_case(b"consume 5", full, 4, 2, 0, 5);
-    let four = run_case(b"consume all", three, 4, 3, 2, 100);
+    let three = run_case(rt, b"consume 5", full, 4, 2, 0, 5)?;
+    let four = run_case(rt, b"consume all", three, 4, 3, 2, 100)?;
     let hollow = filled(four, 0, 0, false);
-    run_case(b"consume 0 of an empty record", hollow, 4, 0, 0, 0);
-    run_case(b"nothing to consume", four, 4, 0, 0, 1);
-    run_case(b"too few records", ring, 3, 0, 0, 4);
-    run_case(b"too many records", ring, 65, 0, 0, 4);
-    run_case(b"unsound ring", unsound(ring), 4, 0, 0, 4);
-    run_case(b"record out of range", ring, 4, 4, 0, 4);
-    run_case(b"0 bytes, record out of range", empty, 4, 4, 0, 0);
-    run_case(b"offset out of range", ring, 4, 1, 2, 4);
-    run_case(b"offset in a DMA-owned record", ring, 4, 2, 1, 4);
+    run_case(rt, b"consume 0 of an empty record", hollow, 4, 0, 0, 0)?;
+    run_case(rt, b"nothing to consume", four, 4, 0, 0, 1)?;
+    run_case(rt, b"too few records", ring, 3, 0, 0, 4)?;
+    run_case(rt, b"too many records", ring, 65, 0, 0, 4)?;
+    run_case(rt, b"unsound ring", unsound(ring), 4, 0, 0, 4)?;
+    run_case(rt, b"record out of range", ring, 4, 4, 0, 4)?;
+    run_case(rt, b"0 bytes, record out of range", empty, 4, 4, 0, 0)?;
+    run_case(rt, b"offset out of range", ring, 4, 1, 2, 4)?;
+    run_case(rt, b"offset in a DMA-owned record", ring, 4, 2, 1, 4)?;
+    Ok(())
 }

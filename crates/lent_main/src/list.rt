@@ -5,6 +5,7 @@ use descriptors::cells::CELLS;
 use descriptors::record::{DmaDescriptor, LIMIT, Next, Owner, TransferDirection};
 use lent::list::{ROOM, Records};
 use rx_stream::buf::DmaRxStreamBuf;
+use std::io;
 use tx_stream::buf::DmaTxStreamBuf;
 
 // The longest buffer of the examples.
@@ -147,42 +148,63 @@ fn same_outcome(a: Outcome, b: Outcome) -> bool {
 }
 
 // n records and the first len bytes, in both directions.
-fn run_case(name: &[u8], n: usize, bytes: &[u8], len: usize) {
+fn run_case(rt: &impl Print, name: &[u8], n: usize, bytes: &[u8], len: usize) -> io::Result<()> {
     if bytes.len() < len {
-        return;
+        return Ok(());
     }
-    run_way(b" receive", name, TransferDirection::In, n, &bytes[..len]);
-    run_way(b" transmit", name, TransferDirection::Out, n, &bytes[..len]);
+    run_way(
+        rt,
+        b" receive",
+        name,
+        TransferDirection::In,
+        n,
+        &bytes[..len],
+    )?;
+    run_way(
+        rt,
+        b" transmit",
+        name,
+        TransferDirection::Out,
+        n,
+        &bytes[..len],
+    )
 }
 
-fn run_way(way: &[u8], name: &[u8], dir: TransferDirection, n: usize, buffer: &[u8]) {
+fn run_way(
+    rt: &impl Print,
+    way: &[u8],
+    name: &[u8],
+    dir: TransferDirection,
+    n: usize,
+    buffer: &[u8],
+) -> io::Result<()> {
     let len = buffer.len();
     let lent = over_list(dir, n, len);
     let value = by_value(dir, n, buffer);
-    crate::say(name);
-    crate::say(way);
-    crate::show(n);
-    crate::show(len);
-    crate::say(b" answered");
-    crate::show(lent.refused as usize);
-    crate::verdict(same_outcome(lent, value));
+    crate::say(rt, name)?;
+    crate::say(rt, way)?;
+    crate::show(rt, n)?;
+    crate::show(rt, len)?;
+    crate::say(rt, b" answered")?;
+    crate::show(rt, lent.refused as usize)?;
+    crate::verdict(rt, same_outcome(lent, value))
 }
 
-pub fn run() {
+pub fn run(rt: &impl Print) -> io::Result<()> {
     let bytes: [u8; BYTES] = [0; BYTES];
-    run_case(b"A", 4, &bytes, 3);
-    run_case(b"B", 4, &bytes, 4);
-    run_case(b"C", 4, &bytes, 11);
-    run_case(b"D", 4, &bytes, 14);
-    run_case(b"E", 4, &bytes, 15);
-    run_case(b"F", 4, &bytes, 16377);
-    run_case(b"G", 4, &bytes, 16378);
-    run_case(b"H", 4, &bytes, 16380);
-    run_case(b"I", 4, &bytes, 16381);
-    run_case(b"no records", 0, &bytes, 14);
-    run_case(b"too few", 3, &bytes, 14);
-    run_case(b"the most", 64, &bytes, 710);
-    run_case(b"too many", 65, &bytes, 700);
-    run_case(b"more than lent", 66, &bytes, 700);
-    run_case(b"chunk 0", 64, &bytes, 63);
+    run_case(rt, b"A", 4, &bytes, 3)?;
+    run_case(rt, b"B", 4, &bytes, 4)?;
+    run_case(rt, b"C", 4, &bytes, 11)?;
+    run_case(rt, b"D", 4, &bytes, 14)?;
+    run_case(rt, b"E", 4, &bytes, 15)?;
+    run_case(rt, b"F", 4, &bytes, 16377)?;
+    run_case(rt, b"G", 4, &bytes, 16378)?;
+    run_case(rt, b"H", 4, &bytes, 16380)?;
+    run_case(rt, b"I", 4, &bytes, 16381)?;
+    run_case(rt, b"no records", 0, &bytes, 14)?;
+    run_case(rt, b"too few", 3, &bytes, 14)?;
+    run_case(rt, b"the most", 64, &bytes, 710)?;
+    run_case(rt, b"too many", 65, &bytes, 700)?;
+    run_case(rt, b"more than lent", 66, &bytes, 700)?;
+    run_case(rt, b"chunk 0", 64, &bytes, 63)
 }

@@ -2,30 +2,29 @@
 // answered and whether both answered and left the same.
 #![tactic(auto)]
 
-use libc::STDOUT_FILENO;
+use std::io;
 
 mod same; // same.rt: whether two answers, lists of words, heads are the same
 mod list; // list.rt: `new` over a lent list, and over words by value
 mod cursor; // cursor.rt: consume from a lent cursor, and from the ring's own
 
-fn say(text: &[u8]) {
-    io::write_all(STDOUT_FILENO, text);
+fn say(rt: &impl Print, text: &[u8]) -> io::Result<()> {
+    rt.write_all(text)
 }
 
-fn show(n: usize) {
-    say(b" ");
-    io::print_decimal(STDOUT_FILENO, n as u64);
+fn show(rt: &impl Print, n: usize) -> io::Result<()> {
+    say(rt, b" ")?;
+    print!(rt; "{n}")
 }
 
-fn verdict(ok: bool) {
+fn verdict(rt: &impl Print, ok: bool) -> io::Result<()> {
     if ok {
-        say(b": same\n");
-        return;
+        return say(rt, b": same\n");
     }
-    say(b": differs\n");
+    say(rt, b": differs\n")
 }
 
-fn main() {
-    list::run();
-    cursor::run();
+fn main(rt: HostRuntime) -> io::Result<()> {
+    list::run(&rt)?;
+    cursor::run(&rt)
 }

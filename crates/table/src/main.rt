@@ -9,10 +9,10 @@ ghost use Rattle.table.specs.Rows.{rows, wide, count, at, same_as, answer_of, re
 use descriptors::refusal::DmaBufError;
 use descriptors::split::Split;
 use descriptors::{refusal, split};
-use libc::STDOUT_FILENO;
 use psram::chip::Chip;
 use psram::cut;
 use psram::plan::Cut;
+use std::io;
 
 const WIDE: usize = 7;
 
@@ -26,7 +26,7 @@ const ROWS: [u32; WIDE * COUNT] = [
     24, 0, 0,
 ];
 
-#[derive(Drop)]
+#[derive(Clone, Copy)]
 pub struct Answer {
     pub refused: usize,
     pub first: usize,
@@ -121,56 +121,53 @@ fn number(k: usize, j: usize) -> usize
     entry_of(k, j) as usize
 }
 
-fn say(text: &[u8]) {
-    io::write_all(STDOUT_FILENO, text);
+fn say(rt: &impl Print, text: &[u8]) -> io::Result<()> {
+    rt.write_all(text)
 }
 
-fn show(n: usize) {
-    say(b" ");
-    io::print_decimal(STDOUT_FILENO, n as u64);
+fn show(rt: &impl Print, n: usize) -> io::Result<()> {
+    say(rt, b" ")?;
+    print!(rt; "{n}")
 }
 
-fn show_asked(asked: u32) {
+fn show_asked(rt: &impl Print, asked: u32) -> io::Result<()> {
     if asked == 0 {
-        say(b" split");
-        return;
+        return say(rt, b" split");
     }
     if asked == 1 {
-        say(b" cut ordinary");
-        return;
+        return say(rt, b" cut ordinary");
     }
-    say(b" cut s2");
+    say(rt, b" cut s2")
 }
 
-fn show_answer(r: Answer) {
+fn show_answer(rt: &impl Print, r: Answer) -> io::Result<()> {
     if r.refused != 0 {
-        say(b": refused");
-        show(r.refused);
-        return;
+        say(rt, b": refused")?;
+        return show(rt, r.refused);
     }
-    say(b":");
-    show(r.first);
-    show(r.second);
-    show(r.third);
+    say(rt, b":")?;
+    show(rt, r.first)?;
+    show(rt, r.second)?;
+    show(rt, r.third)
 }
 
-fn run_row(k: usize)
+fn run_row(rt: &impl Print, k: usize) -> io::Result<()>
     requires { k < count }
 {
     let name = [(65 + k % 26) as u8];
-    say(&name);
+    say(rt, &name)?;
     let asked = entry_of(k, 0);
     let a = entry_of(k, 1);
     let b = entry_of(k, 2);
-    show_asked(asked);
-    show(a as usize);
-    show(b as usize);
+    show_asked(rt, asked)?;
+    show(rt, a as usize)?;
+    show(rt, b as usize)?;
     let r = answer_to(asked, a, b);
-    show_answer(r);
+    show_answer(rt, r)?;
     if is_same(r, k) {
-        say(b" same\n");
+        say(rt, b" same\n")
     } else {
-        say(b" differs\n");
+        say(rt, b" differs\n")
     }
 }
 
@@ -182,10 +179,11 @@ fn entry_of(k: usize, j: usize) -> u32
     entry(WIDE * k + j)
 }
 
-fn main() {
+fn main(rt: HostRuntime) -> io::Result<()> {
     let mut k: usize = 0;
     while k < COUNT {
-        run_row(k);
+        run_row(&rt, k)?;
         k += 1;
     }
+    Ok(())
 }

@@ -8,27 +8,28 @@ use psram::chip::Chip;
 use psram::held::Listed;
 use psram::plan::Cut;
 use psram::{cut, list, piece};
+use std::io;
 
-fn split(n: usize, len: usize) {
-    say::text(b"split");
-    say::number(n);
-    say::number(len);
+fn split(rt: &impl Print, n: usize, len: usize) -> io::Result<()> {
+    say::text(rt, b"split")?;
+    say::number(rt, n)?;
+    say::number(rt, len)?;
     let parts = split::split_of(n, len);
     match parts {
         Split::Parts { chunk, rest } => {
-            say::number(chunk);
-            say::number(rest);
+            say::number(rt, chunk)?;
+            say::number(rt, rest)?;
         }
-        Split::Refused(e) => say::refused(e),
+        Split::Refused(e) => say::refused(rt, e)?,
     }
-    say::line();
+    say::line(rt)
 }
 
-fn align(address: u32, length: u32, alignment: u32) {
-    say::text(b"align");
-    say::number(address as usize);
-    say::number(length as usize);
-    say::number(alignment as usize);
+fn align(rt: &impl Print, address: u32, length: u32, alignment: u32) -> io::Result<()> {
+    say::text(rt, b"align")?;
+    say::number(rt, address as usize)?;
+    say::number(rt, length as usize)?;
+    say::number(rt, alignment as usize)?;
     let internal = Region {
         start: 0,
         end: 4294967296,
@@ -43,29 +44,29 @@ fn align(address: u32, length: u32, alignment: u32) {
         alignment,
         1,
     );
-    say::done(b"", r);
+    say::done(rt, b"", r)
 }
 
-fn cut_at(address: u32, length: u32) {
-    say::text(b"cut");
-    say::number(address as usize);
-    say::number(length as usize);
+fn cut_at(rt: &impl Print, address: u32, length: u32) -> io::Result<()> {
+    say::text(rt, b"cut")?;
+    say::number(rt, address as usize)?;
+    say::number(rt, length as usize)?;
     match cut::cut(address, length, Chip::Ordinary) {
         Cut::Parts { head, middle, tail } => {
-            say::number(head);
-            say::number(middle);
-            say::number(tail);
+            say::number(rt, head)?;
+            say::number(rt, middle)?;
+            say::number(rt, tail)?;
         }
-        Cut::Refused(e) => say::refused(e),
+        Cut::Refused(e) => say::refused(rt, e)?,
     }
-    say::line();
+    say::line(rt)
 }
 
-fn pieces(n: usize, address: u32, length: u32, store: usize) {
-    say::text(b"pieces");
-    say::number(n);
-    say::number(length as usize);
-    say::number(store);
+fn pieces(rt: &impl Print, n: usize, address: u32, length: u32, store: usize) -> io::Result<()> {
+    say::text(rt, b"pieces")?;
+    say::number(rt, n)?;
+    say::number(rt, length as usize)?;
+    say::number(rt, store)?;
     let mut s = [0u32; 64];
     let mut w = [0u16; 320];
     match list::build_descriptor_list_for_psram(
@@ -78,58 +79,59 @@ fn pieces(n: usize, address: u32, length: u32, store: usize) {
         store,
     ) {
         Listed::Bytes { covered, used } => {
-            say::number(covered);
-            say::number(used);
+            say::number(rt, covered)?;
+            say::number(rt, used)?;
         }
-        Listed::Refused(e) => say::refused(e),
+        Listed::Refused(e) => say::refused(rt, e)?,
     }
-    say::line();
+    say::line(rt)
 }
 
-fn numbered(i: usize) {
+fn numbered(rt: &impl Print, i: usize) -> io::Result<()> {
     let store = [0u8; 32];
     let range = [0u8; 100];
-    say::text(b"piece");
-    say::number(i);
+    say::text(rt, b"piece")?;
+    say::number(rt, i)?;
     say::done(
+        rt,
         b"",
         piece::piece_refusal(&store, &range, 64, 13, Chip::Ordinary, i),
-    );
+    )
 }
 
-fn splits() {
-    split(0, 14);
-    split(3, 14);
-    split(4, 0);
-    split(4, 16384);
-    split(65, 14);
-    split(18446744073709551615, 14);
+fn splits(rt: &impl Print) -> io::Result<()> {
+    split(rt, 0, 14)?;
+    split(rt, 3, 14)?;
+    split(rt, 4, 0)?;
+    split(rt, 4, 16384)?;
+    split(rt, 65, 14)?;
+    split(rt, 18446744073709551615, 14)
 }
 
-fn alignments() {
-    align(16, 16, 0);
-    align(16, 16, 3);
-    align(64, 64, 64);
-    align(128, 128, 128);
-    align(16, 16, 2147483648);
-    align(17, 16, 16);
-    align(16, 17, 16);
-    align(17, 0, 16);
-    align(4294967280, 16, 16);
-    align(4294967280, 32, 16);
+fn alignments(rt: &impl Print) -> io::Result<()> {
+    align(rt, 16, 16, 0)?;
+    align(rt, 16, 16, 3)?;
+    align(rt, 64, 64, 64)?;
+    align(rt, 128, 128, 128)?;
+    align(rt, 16, 16, 2147483648)?;
+    align(rt, 17, 16, 16)?;
+    align(rt, 16, 17, 16)?;
+    align(rt, 17, 0, 16)?;
+    align(rt, 4294967280, 16, 16)?;
+    align(rt, 4294967280, 32, 16)
 }
 
-pub fn run() {
-    splits();
-    alignments();
-    cut_at(0, 0);
-    cut_at(4294967280, 16);
-    cut_at(4294967280, 17);
-    pieces(64, 0, 8170, 32);
-    pieces(2, 0, 8170, 32);
-    pieces(0, 0, 8170, 32);
-    pieces(64, 0, 8170, 31);
-    pieces(65, 0, 8170, 32);
-    numbered(2);
-    numbered(3);
+pub fn run(rt: &impl Print) -> io::Result<()> {
+    splits(rt)?;
+    alignments(rt)?;
+    cut_at(rt, 0, 0)?;
+    cut_at(rt, 4294967280, 16)?;
+    cut_at(rt, 4294967280, 17)?;
+    pieces(rt, 64, 0, 8170, 32)?;
+    pieces(rt, 2, 0, 8170, 32)?;
+    pieces(rt, 0, 0, 8170, 32)?;
+    pieces(rt, 64, 0, 8170, 31)?;
+    pieces(rt, 65, 0, 8170, 32)?;
+    numbered(rt, 2)?;
+    numbered(rt, 3)
 }

@@ -3,42 +3,42 @@ use descriptors::record::Next;
 use descriptors::refusal;
 use descriptors::refusal::{Counted, DmaBufError, Done};
 use descriptors::ring::Head;
-use libc::STDOUT_FILENO;
+use std::io;
 
-pub fn text(words: &[u8]) {
-    io::write_all(STDOUT_FILENO, words);
+pub fn text(rt: &impl Print, words: &[u8]) -> io::Result<()> {
+    rt.write_all(words)
 }
 
-pub fn number(n: usize) {
-    text(b" ");
-    io::print_decimal(STDOUT_FILENO, n as u64);
+pub fn number(rt: &impl Print, n: usize) -> io::Result<()> {
+    text(rt, b" ")?;
+    print!(rt; "{n}")
 }
 
-pub fn line() {
-    text(b"\n");
+pub fn line(rt: &impl Print) -> io::Result<()> {
+    text(rt, b"\n")
 }
 
-pub fn refused(e: DmaBufError) {
-    text(b" refused");
-    number(refusal::number(e) as usize);
+pub fn refused(rt: &impl Print, e: DmaBufError) -> io::Result<()> {
+    text(rt, b" refused")?;
+    number(rt, refusal::number(e) as usize)
 }
 
-pub fn done(name: &[u8], answer: Done) {
-    text(name);
+pub fn done(rt: &impl Print, name: &[u8], answer: Done) -> io::Result<()> {
+    text(rt, name)?;
     match answer {
-        Done::Ready => text(b" ok"),
-        Done::Refused(e) => refused(e),
+        Done::Ready => text(rt, b" ok")?,
+        Done::Refused(e) => refused(rt, e)?,
     }
-    line();
+    line(rt)
 }
 
-pub fn counted(name: &[u8], answer: Counted) {
-    text(name);
+pub fn counted(rt: &impl Print, name: &[u8], answer: Counted) -> io::Result<()> {
+    text(rt, name)?;
     match answer {
-        Counted::Bytes(k) => number(k),
-        Counted::Refused(e) => refused(e),
+        Counted::Bytes(k) => number(rt, k)?,
+        Counted::Refused(e) => refused(rt, e)?,
     }
-    line();
+    line(rt)
 }
 
 fn wide(b: u8) -> u64 {
@@ -46,44 +46,43 @@ fn wide(b: u8) -> u64 {
 }
 
 // The first k bytes of a part, each as two hexadecimal digits.
-fn first(name: &[u8], part: &[u8], k: usize) {
-    text(name);
-    text(b" ");
+fn first(rt: &impl Print, name: &[u8], part: &[u8], k: usize) -> io::Result<()> {
+    text(rt, name)?;
+    text(rt, b" ")?;
     let mut i: usize = 0;
     while i < part.len() {
         if i < k {
-            io::print_hex(STDOUT_FILENO, wide(part[i]), 2);
+            print!(rt; "{:02x}", wide(part[i]))?;
         }
         i += 1;
     }
-    line();
+    line(rt)
 }
 
-pub fn bytes(name: &[u8], part: &[u8]) {
-    first(name, part, part.len());
+pub fn bytes(rt: &impl Print, name: &[u8], part: &[u8]) -> io::Result<()> {
+    first(rt, name, part, part.len())
 }
 
 // The front of what a pop filled.
-pub fn front(name: &[u8], part: &[u8], answer: Counted) {
+pub fn front(rt: &impl Print, name: &[u8], part: &[u8], answer: Counted) -> io::Result<()> {
     let Counted::Bytes(k) = answer else {
-        counted(name, answer);
-        return;
+        return counted(rt, name, answer);
     };
-    first(name, part, k);
+    first(rt, name, part, k)
 }
 
-pub fn cursor(h: Head) {
-    text(b"cursor");
-    number(h.descriptor_idx);
-    number(h.descriptor_offset);
-    line();
+pub fn cursor(rt: &impl Print, h: Head) -> io::Result<()> {
+    text(rt, b"cursor")?;
+    number(rt, h.descriptor_idx)?;
+    number(rt, h.descriptor_offset)?;
+    line(rt)
 }
 
-pub fn next(name: &[u8], next: Next) {
-    text(name);
+pub fn next(rt: &impl Print, name: &[u8], next: Next) -> io::Result<()> {
+    text(rt, name)?;
     match next {
-        Next::Nothing => text(b" none"),
-        Next::At(i) => number(i as usize),
+        Next::Nothing => text(rt, b" none")?,
+        Next::At(i) => number(rt, i as usize)?,
     }
-    line();
+    line(rt)
 }
