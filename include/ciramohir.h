@@ -1,6 +1,6 @@
 /* The proved DMA stream rings, for C.
  *
- * Link with libcapi.a (`rt staticlib capi` writes target/staticlib/libcapi.a). Every function is proved to meet its contract in
+ * Link with libcapi.a (`tools/library` writes target/staticlib/libcapi.a). Every function is proved to meet its contract in
  * crates/capi/src for every input that the language calls a call: pointers that may be read, and written where they are not const,
  * over the length passed with them, and no two of one call's written slices overlapping each other or a slice it reads. An empty
  * slice still wants a pointer that is not null.

@@ -1,4 +1,4 @@
-//! Links the static library of the proved code, where it has been built (`rt staticlib capi`).
+//! Links the static library of the proved code, where it has been built (`tools/library`).
 
 use std::env;
 use std::path::{Path, PathBuf};
