@@ -5,7 +5,7 @@ pub returns-then-i-ne0 : goal.returns-then-i-ne0
 returns-then-i-ne0 c = sym (simp (ne_eqb _ _ c.if-i-ne0.true))
 
 pub returns-then-n-eq0 : goal.returns-then-n-eq0
-returns-then-n-eq0 c = sym (simp (eq-eqb _ _ c.before.if-i-ne0.false, c.if-n-eq0.true))
+returns-then-n-eq0 c = sym (simp (eq-eqb _ _ c.if-i-ne0.false, c.if-n-eq0.true))
 
 pub returns : goal.returns
-returns c = sym (simp (eq-eqb _ _ c.before.if-i-ne0.false))
+returns c = sym (simp (eq-eqb _ _ c.if-i-ne0.false))

@@ -9,8 +9,8 @@ returns-then-s-ne-LIMIT c = and-stop _ _ (ne_eqb _ _ c.if-s-ne-LIMIT.true)
 
 pub returns-then-w-ne-CELLS : goal.returns-then-w-ne-CELLS
 unfolding are_records are_cells
-returns-then-w-ne-CELLS c = and-go (eq-eqb _ _ c.before.if-s-ne-LIMIT.false) (and-stop _ _ (ne_eqb _ _ c.if-w-ne-CELLS.true))
+returns-then-w-ne-CELLS c = and-go (eq-eqb _ _ c.if-s-ne-LIMIT.false) (and-stop _ _ (ne_eqb _ _ c.if-w-ne-CELLS.true))
 
 pub returns : goal.returns
 unfolding are_records are_cells
-returns c = and-go (eq-eqb _ _ c.before.before.if-s-ne-LIMIT.false) (and-go (eq-eqb _ _ c.before.if-w-ne-CELLS.false) c.marks_ok.ensures)
+returns c = and-go (eq-eqb _ _ c.if-s-ne-LIMIT.false) (and-go (eq-eqb _ _ c.if-w-ne-CELLS.false) c.marks_ok.ensures)

@@ -9,24 +9,24 @@ returns-then-n-lt-LEAST c = sym (simp (lt-ltb _ _ c.if-n-lt-LEAST.true))
 
 pub returns-then-n-gt-LIMIT : goal.returns-then-n-gt-LIMIT
 unfolding split_of
-returns-then-n-gt-LIMIT c = sym (simp (le-ltb _ _ c.before.if-n-lt-LEAST.false, lt-ltb _ _ c.if-n-gt-LIMIT.true))
+returns-then-n-gt-LIMIT c = sym (simp (le-ltb _ _ c.if-n-lt-LEAST.false, lt-ltb _ _ c.if-n-gt-LIMIT.true))
 
 pub returns-then-chunk-gt-MOST : goal.returns-then-chunk-gt-MOST
 unfolding split_of
-returns-then-chunk-gt-MOST c = sym (simp (le-ltb _ _ c.before.before.if-n-lt-LEAST.false, le-ltb _ _ c.before.if-n-gt-LIMIT.false, lt-ltb _ _ c.if-chunk-gt-MOST.true))
+returns-then-chunk-gt-MOST c = sym (simp (le-ltb _ _ c.if-n-lt-LEAST.false, le-ltb _ _ c.if-n-gt-LIMIT.false, lt-ltb _ _ c.if-chunk-gt-MOST.true))
 
 pub returns-then-chunk-eq0 : goal.returns-then-chunk-eq0
 unfolding split_of
-returns-then-chunk-eq0 c = sym (simp (le-ltb _ _ c.before.before.before.if-n-lt-LEAST.false, le-ltb _ _ c.before.before.if-n-gt-LIMIT.false, le-ltb _ _ c.before.if-chunk-gt-MOST.false, eq-eqb _ _ c.if-chunk-eq0.true))
+returns-then-chunk-eq0 c = sym (simp (le-ltb _ _ c.if-n-lt-LEAST.false, le-ltb _ _ c.if-n-gt-LIMIT.false, le-ltb _ _ c.if-chunk-gt-MOST.false, eq-eqb _ _ c.if-chunk-eq0.true))
 
 pub returns-then-chunk-rest : goal.returns-then-chunk-rest
 unfolding split_of
-returns-then-chunk-rest c = sym (simp (le-ltb _ _ c.before.before.before.before.if-n-lt-LEAST.false, le-ltb _ _ c.before.before.before.if-n-gt-LIMIT.false, le-ltb _ _ c.before.before.if-chunk-gt-MOST.false, ne_eqb _ _ c.before.if-chunk-eq0.false, le-leb _ _ c.if-chunk-rest.true))
+returns-then-chunk-rest c = sym (simp (le-ltb _ _ c.if-n-lt-LEAST.false, le-ltb _ _ c.if-n-gt-LIMIT.false, le-ltb _ _ c.if-chunk-gt-MOST.false, ne_eqb _ _ c.if-chunk-eq0.false, le-leb _ _ c.if-chunk-rest.true))
 
 pub returns-then-chunk-rest-gt-MOST : goal.returns-then-chunk-rest-gt-MOST
 unfolding split_of
-returns-then-chunk-rest-gt-MOST c = sym (simp (le-ltb _ _ c.before.before.before.before.before.if-n-lt-LEAST.false, le-ltb _ _ c.before.before.before.before.if-n-gt-LIMIT.false, le-ltb _ _ c.before.before.before.if-chunk-gt-MOST.false, ne_eqb _ _ c.before.before.if-chunk-eq0.false, lt-leb _ _ c.before.if-chunk-rest.false, lt-ltb _ _ c.if-chunk-rest-gt-MOST.true))
+returns-then-chunk-rest-gt-MOST c = sym (simp (le-ltb _ _ c.if-n-lt-LEAST.false, le-ltb _ _ c.if-n-gt-LIMIT.false, le-ltb _ _ c.if-chunk-gt-MOST.false, ne_eqb _ _ c.if-chunk-eq0.false, lt-leb _ _ c.if-chunk-rest.false, lt-ltb _ _ c.if-chunk-rest-gt-MOST.true))
 
 pub returns : goal.returns
 unfolding split_of
-returns c = sym (simp (le-ltb _ _ c.before.before.before.before.before.if-n-lt-LEAST.false, le-ltb _ _ c.before.before.before.before.if-n-gt-LIMIT.false, le-ltb _ _ c.before.before.before.if-chunk-gt-MOST.false, ne_eqb _ _ c.before.before.if-chunk-eq0.false, lt-leb _ _ c.before.if-chunk-rest.false, le-ltb _ _ c.if-chunk-rest-gt-MOST.false))
+returns c = sym (simp (le-ltb _ _ c.if-n-lt-LEAST.false, le-ltb _ _ c.if-n-gt-LIMIT.false, le-ltb _ _ c.if-chunk-gt-MOST.false, ne_eqb _ _ c.if-chunk-eq0.false, lt-leb _ _ c.if-chunk-rest.false, le-ltb _ _ c.if-chunk-rest-gt-MOST.false))
