@@ -29,7 +29,6 @@ use std::env::FillError;
 use std::fmt::Display;
 use std::fs::File;
 use std::io::{Read, Stdout};
-use std::process::ExitCode;
 use std::rt::Env;
 
 // The most bytes of a ring's buffer.
@@ -110,29 +109,22 @@ fn answer<R: Read>(source: &mut R, to: Stdout) {
 }
 
 // What stands on standard error where the commands cannot be read.
-fn failed(rt: &HostRuntime, name: &str, why: impl Display + Drop) -> ExitCode {
+fn failed(rt: &HostRuntime, name: &str, why: impl Display + Drop) {
     let _ = eprintln!(rt; "{name}: {why}");
-    ExitCode::FAILURE
 }
 
 // The commands of a file.
-fn replay(rt: &HostRuntime, path: &str) -> ExitCode {
+fn replay(rt: &HostRuntime, path: &str) {
     match File::open(rt, path) {
         Err(why) => failed(rt, path, why),
-        Ok(mut file) => {
-            answer(&mut file, rt.stdout());
-            ExitCode::SUCCESS
-        }
+        Ok(mut file) => answer(&mut file, rt.stdout()),
     }
 }
 
-fn main(rt: HostRuntime) -> ExitCode {
+fn main(rt: HostRuntime) {
     let mut path = [0u8; PATH];
     match rt.arg(1, &mut path) {
-        Err(FillError::NotPresent) => {
-            answer(&mut rt.stdin(), rt.stdout());
-            ExitCode::SUCCESS
-        }
+        Err(FillError::NotPresent) => answer(&mut rt.stdin(), rt.stdout()),
         Err(FillError::TooLong) => failed(&rt, "file", "File name too long"),
         Ok(length) => match str::from_utf8(&path[..length]) {
             Err(why) => failed(&rt, "file", why),
