@@ -26,25 +26,19 @@ overflow_mul-bounce c =
 pub returns-then-store-bounce : goal.returns-then-store-bounce
 unfolding ready_of
 returns-then-store-bounce c =
-    let few : ltb limit c.args.n ≡ false = le-ltb _ _ c.if-n-gt-LIMIT.false in
-    let have : c.args.held ≡ true = not-false c.args.held c.if-not-held.false-raw in
     let h : c.args.store < 2 * bounce_of c.args.chip = omega (arith, c.bounce.ensures) in
-    sym (simp (few, have, lt-leb _ _ h))
+    sym (simp (le-ltb _ _ c.if-n-gt-LIMIT.false, not-false c.args.held c.if-not-held.false-raw, lt-leb _ _ h))
 
 pub returns-then-is_past : goal.returns-then-is_past
 unfolding ready_of
 returns-then-is_past c =
-    let few : ltb limit c.args.n ≡ false = le-ltb _ _ c.if-n-gt-LIMIT.false in
-    let have : c.args.held ≡ true = not-false c.args.held c.if-not-held.false-raw in
     let room : let a = c.args in leb (2 * bounce_of a.chip) a.store ≡ true = let a = c.args in
     let h : 2 * bounce_of a.chip ≤ a.store = omega (arith, c.bounce.ensures) in le-leb _ _ h in
-    sym (simp (few, have, room, sym c.is_past.ensures ∙ c.if-is_past.true))
+    sym (simp (le-ltb _ _ c.if-n-gt-LIMIT.false, not-false c.args.held c.if-not-held.false-raw, room, sym c.is_past.ensures ∙ c.if-is_past.true))
 
 pub returns : goal.returns
 unfolding ready_of
 returns c =
-    let few : ltb limit c.args.n ≡ false = le-ltb _ _ c.if-n-gt-LIMIT.false in
-    let have : c.args.held ≡ true = not-false c.args.held c.if-not-held.false-raw in
     let room : let a = c.args in leb (2 * bounce_of a.chip) a.store ≡ true = let a = c.args in
     let h : 2 * bounce_of a.chip ≤ a.store = omega (arith, c.bounce.ensures) in le-leb _ _ h in
-    sym (simp (few, have, room, sym c.is_past.ensures ∙ c.if-is_past.false))
+    sym (simp (le-ltb _ _ c.if-n-gt-LIMIT.false, not-false c.args.held c.if-not-held.false-raw, room, sym c.is_past.ensures ∙ c.if-is_past.false))
