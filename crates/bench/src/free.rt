@@ -44,8 +44,8 @@ pub fn align(a: [usize; 9], out: &mut [u8], at: usize) -> usize {
 
 pub fn cut(a: [usize; 9], out: &mut [u8], at: usize) -> usize {
     match cut::cut(state::narrow32(a[0]), state::narrow32(a[1]), chip_of(a[2])) {
-        Cut::Refused(e) => say::refused(out, at, e),
-        Cut::Parts { head, middle, tail } => {
+        Err(e) => say::refused(out, at, e),
+        Ok(Cut { head, middle, tail }) => {
             let mut e = say::count(out, at, b"head ", head);
             e = say::count(out, e, b" middle ", middle);
             e = say::count(out, e, b" tail ", tail);

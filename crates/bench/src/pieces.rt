@@ -16,12 +16,12 @@ pub struct Middle {
 
 fn directs(address: u32, length: u32, chip: Chip) -> Middle {
     match cut::cut(address, length, chip) {
-        Cut::Refused(_) => Middle { start: 0, size: 0 },
-        Cut::Parts {
+        Err(_) => Middle { start: 0, size: 0 },
+        Ok(Cut {
             head,
             middle,
             tail: _,
-        } => Middle {
+        }) => Middle {
             start: head,
             size: middle,
         },
@@ -82,8 +82,8 @@ pub fn run(s: &mut [u32], w: &mut [u16], a: [usize; 9], out: &mut [u8], at: usiz
     let length = state::narrow32(a[2]);
     let chip = free::chip_of(a[3]);
     match list::build_descriptor_list_for_psram(s, w, a[0], address, length, chip, a[4]) {
-        Listed::Refused(e) => say::refused(out, at, e),
-        Listed::Bytes { covered, used } => {
+        Err(e) => say::refused(out, at, e),
+        Ok(Listed { covered, used }) => {
             let mut e = say::count(out, at, b"covered ", covered);
             e = say::count(out, e, b" records ", used);
             e = put::end(out, e);

@@ -2,9 +2,8 @@
 use crate::command::OfReceive;
 use crate::state::{Bench, Turn};
 use crate::{put, say, state};
-use descriptors::refusal::{Counted, Done};
 use device::receive;
-use rx_stream::{Ended, Took, in_place};
+use rx_stream::{Took, in_place};
 
 fn peek<'a>(
     s: &'a [u32],
@@ -16,8 +15,8 @@ fn peek<'a>(
 ) -> usize {
     let head = b.head;
     match in_place::peek_refusal_in(s, w, head, buffer.len()) {
-        Done::Refused(e) => say::refused(out, at, e),
-        Done::Ready => {
+        Err(e) => say::refused(out, at, e),
+        Ok(()) => {
             let e = say::bytes(out, at, b"peek ", in_place::peek_in(s, w, head, buffer));
             put::end(out, e)
         }
@@ -34,8 +33,8 @@ fn peek_until_eof<'a>(
 ) -> usize {
     let head = b.head;
     match in_place::peek_eof_in(s, w, head, buffer.len()) {
-        Ended::Refused(e) => say::refused(out, at, e),
-        Ended::Eof(eof) => {
+        Err(e) => say::refused(out, at, e),
+        Ok(eof) => {
             let e = say::bytes(
                 out,
                 at,
@@ -50,10 +49,10 @@ fn peek_until_eof<'a>(
     }
 }
 
-fn took(out: &mut [u8], at: usize, answer: Took) -> usize {
+fn took(out: &mut [u8], at: usize, answer: Result<Took, DmaBufError>) -> usize {
     match answer {
-        Took::Refused(e) => say::refused(out, at, e),
-        Took::Bytes { taken, back } => {
+        Err(e) => say::refused(out, at, e),
+        Ok(Took { taken, back }) => {
             let mut e = say::count(out, at, b"taken ", taken);
             e = say::count(out, e, b" back ", back);
             put::end(out, e)
@@ -72,10 +71,10 @@ fn consume(s: &[u32], w: &mut [u16], b: Bench, k: usize, out: &mut [u8], at: usi
     }
 }
 
-fn popped(out: &mut [u8], at: usize, answer: Counted, data: &[u8]) -> usize {
+fn popped(out: &mut [u8], at: usize, answer: Result<usize, DmaBufError>, data: &[u8]) -> usize {
     match answer {
-        Counted::Refused(e) => say::refused(out, at, e),
-        Counted::Bytes(k) => {
+        Err(e) => say::refused(out, at, e),
+        Ok(k) => {
             let e = say::bytes(out, at, b"popped ", state::front(data, k));
             put::end(out, e)
         }

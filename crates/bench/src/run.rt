@@ -4,7 +4,6 @@ use crate::command::{Command, OfRing};
 use crate::state::{Bench, Ring, Turn};
 use crate::why::Why;
 use crate::{command, free, pieces, receive, say, set, show, state, transmit, word};
-use descriptors::refusal::Counted;
 use descriptors::ring::Headed;
 
 // The most bytes of a line.
@@ -26,7 +25,7 @@ fn prepared(s: &[u32], w: &mut [u16], b: Bench) -> Headed {
     }
 }
 
-fn available<'a>(s: &'a [u32], w: &'a [u16], b: Bench) -> Counted {
+fn available<'a>(s: &'a [u32], w: &'a [u16], b: Bench) -> Result<usize, DmaBufError> {
     let kind = b.ring;
     let head = b.head;
     match kind {

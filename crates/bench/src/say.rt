@@ -2,7 +2,7 @@
 use crate::why::Why;
 use crate::{put, why};
 use descriptors::refusal;
-use descriptors::refusal::{Counted, DmaBufError, Done};
+use descriptors::refusal::DmaBufError;
 
 pub fn ok(out: &mut [u8], at: usize) -> usize {
     put::text(out, at, b"ok\n")
@@ -19,21 +19,21 @@ pub fn count(out: &mut [u8], at: usize, word: &[u8], k: usize) -> usize {
 }
 
 pub fn refused(out: &mut [u8], at: usize, e: DmaBufError) -> usize {
-    let end = count(out, at, b"refused ", refusal::number(e) as usize);
+    let end = count(out, at, b"refused ", u8::from(e) as usize);
     put::end(out, end)
 }
 
-pub fn done(out: &mut [u8], at: usize, answer: Done) -> usize {
+pub fn done(out: &mut [u8], at: usize, answer: Result<(), DmaBufError>) -> usize {
     match answer {
-        Done::Ready => ok(out, at),
-        Done::Refused(e) => refused(out, at, e),
+        Ok(()) => ok(out, at),
+        Err(e) => refused(out, at, e),
     }
 }
 
-pub fn counted(out: &mut [u8], at: usize, word: &[u8], answer: Counted) -> usize {
+pub fn counted(out: &mut [u8], at: usize, word: &[u8], answer: Result<usize, DmaBufError>) -> usize {
     match answer {
-        Counted::Refused(e) => refused(out, at, e),
-        Counted::Bytes(k) => {
+        Err(e) => refused(out, at, e),
+        Ok(k) => {
             let e = count(out, at, word, k);
             put::end(out, e)
         }
@@ -41,10 +41,10 @@ pub fn counted(out: &mut [u8], at: usize, word: &[u8], answer: Counted) -> usize
 }
 
 // The count where the answer is good.
-pub fn done_with(out: &mut [u8], at: usize, word: &[u8], k: usize, answer: Done) -> usize {
+pub fn done_with(out: &mut [u8], at: usize, word: &[u8], k: usize, answer: Result<(), DmaBufError>) -> usize {
     match answer {
-        Done::Refused(e) => refused(out, at, e),
-        Done::Ready => {
+        Err(e) => refused(out, at, e),
+        Ok(()) => {
             let e = count(out, at, word, k);
             put::end(out, e)
         }

@@ -3,7 +3,6 @@ use crate::state::{Bench, Ring, Turn};
 use crate::why::Why;
 use crate::{say, state};
 use descriptors::record::{DmaDescriptor, Owner, TransferDirection};
-use descriptors::refusal::Done;
 use descriptors::ring::Head;
 use descriptors::{cells, ring};
 use device::stand;
@@ -60,8 +59,8 @@ pub fn new(
     let answer = made.answer;
     let end = say::done(out, at, answer);
     match answer {
-        Done::Refused(_) => Turn { bench: b, at: end },
-        Done::Ready => {
+        Err(_) => Turn { bench: b, at: end },
+        Ok(()) => {
             let all = state::least(len, buffer.len());
             clear(&mut buffer[0..all]);
             let head = made.head;

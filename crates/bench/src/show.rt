@@ -2,12 +2,12 @@
 use crate::state::{Bench, Ring};
 use crate::{put, say};
 use descriptors::cells;
-use descriptors::record::{DmaDescriptor, Next, Owner};
+use descriptors::record::{DmaDescriptor, Owner};
 
-fn next(out: &mut [u8], at: usize, next: Next, none: &[u8]) -> usize {
+fn next(out: &mut [u8], at: usize, next: Option<u16>, none: &[u8]) -> usize {
     match next {
-        Next::Nothing => put::text(out, at, none),
-        Next::At(i) => put::number(out, at, i as usize),
+        None => put::text(out, at, none),
+        Some(i) => put::number(out, at, i as usize),
     }
 }
 

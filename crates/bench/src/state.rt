@@ -1,7 +1,6 @@
 // What the console holds beside the lent records and the lent buffer.
 ghost use Rattle.std.specs.Prelude.{◌≡◌, min};
 
-use descriptors::record::Next;
 use descriptors::ring::Head;
 
 #[derive(Clone, Copy)]
@@ -16,7 +15,7 @@ pub struct Bench {
     pub ring: Ring,
     pub head: Head,
     pub len: usize,
-    pub device: Next,
+    pub device: Option<u16>,
 }
 
 // What a command leaves: the state, and where the output ends.
@@ -38,7 +37,7 @@ pub fn empty() -> Bench {
             pre_filled: 0,
         },
         len: 0,
-        device: Next::Nothing,
+        device: None,
     }
 }
 
@@ -53,7 +52,7 @@ pub fn with_head(b: Bench, head: Head) -> Bench {
     }
 }
 
-pub fn with_device(b: Bench, device: Next) -> Bench {
+pub fn with_device(b: Bench, device: Option<u16>) -> Bench {
     let ring = b.ring;
     let head = b.head;
     Bench {
@@ -74,11 +73,11 @@ pub fn narrow16(v: usize) -> u16 {
 }
 
 // A record's number as an argument tells it: 0 for none, else one more than the number.
-pub fn next_of(v: usize) -> Next {
+pub fn next_of(v: usize) -> Option<u16> {
     if v == 0 {
-        return Next::Nothing;
+        return None;
     }
-    Next::At(narrow16(v - 1))
+    Some(narrow16(v - 1))
 }
 
 pub fn least(a: usize, b: usize) -> usize

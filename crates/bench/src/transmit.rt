@@ -2,7 +2,6 @@
 use crate::command::OfTransmit;
 use crate::state::{Bench, Turn};
 use crate::{put, say, set, state};
-use descriptors::refusal::Counted;
 use descriptors::ring::Head;
 use device::transmit;
 use tx_stream::answer::Accepting;
@@ -43,10 +42,10 @@ fn offer<'a>(
     say::done_with(out, at, b"offered ", part.len(), answer)
 }
 
-fn sent(out: &mut [u8], at: usize, answer: Counted, data: &[u8]) -> usize {
+fn sent(out: &mut [u8], at: usize, answer: Result<usize, DmaBufError>, data: &[u8]) -> usize {
     match answer {
-        Counted::Refused(e) => say::refused(out, at, e),
-        Counted::Bytes(k) => {
+        Err(e) => say::refused(out, at, e),
+        Ok(k) => {
             let e = say::bytes(out, at, b"sent ", state::front(data, k));
             put::end(out, e)
         }

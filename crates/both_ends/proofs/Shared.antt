@@ -1,8 +1,7 @@
 -- What holds of both directions alike, proved once: from what every action keeps to the clauses of `Agrees`.
-use Rattle.std.specs.Prelude.{◌≡◌, refl, true, List, [], ◌∷◌, ◌++◌, ℕ, ◌+◌, ◌-◌, ◌%◌, ◌^◌, ◌≤◌, ◌<◌, length}
+use Rattle.std.specs.Prelude.{◌≡◌, refl, true, List, [], ◌∷◌, ◌++◌, ℕ, ◌+◌, ◌-◌, ◌%◌, ◌^◌, ◌≤◌, ◌<◌, length, Some, None}
 use Rattle.std.proofs.Common.{◌∙◌, ap, append-nil, arith}
 use Rattle.descriptors.specs.Ring.{sound, between_of}
-use Rattle.descriptors.specs.declared.record.Next.TheVariants.{Nothing, At}
 use Rattle.descriptors.specs.declared.record.TransferDirection.{TransferDirection}
 use Rattle.ring_order.specs.Places.{turn-mod}
 use Rattle.ring_order.specs.Tally.{differs}
@@ -24,9 +23,9 @@ pub record Keeps {A : Type 0} (dir : TransferDirection) (step : World → A → 
   pub law : (q : ℕ) (w : World) → Good q w → (a : A)
       → (p : ℕ) × Good p (step w a) × Move n q w.device w.visited p (step w a).device (step w a).visited
   pub passes : (q : ℕ) (w : World) → Good q w → sound dir w.ring (length w.bytes) ≡ true
-  pub below : (q : ℕ) (w : World) → Good q w → (i : ℕ) → w.device ≡ At i → i < n
+  pub below : (q : ℕ) (w : World) → Good q w → (i : ℕ) → w.device ≡ Some i → i < n
   pub tally : (q : ℕ) (w : World) → Good q w → w.ring.tally ≡ length w.by_calls % 2 ^ 32
-  pub still : (q : ℕ) (w : World) → Good q w → w.device ≡ Nothing → (a : A) → (step w a).by_steps ≡ w.by_steps
+  pub still : (q : ℕ) (w : World) → Good q w → w.device ≡ None → (a : A) → (step w a).by_steps ≡ w.by_steps
   pub adds : (w : World) (a : A) → length w.by_calls ≤ length (step w a).by_calls
 
 module _ {A : Type 0} {dir : TransferDirection} {step : World → A → World} {n : ℕ} {Good : ℕ → World → Type 0} (K : Keeps dir step n Good) where
@@ -42,7 +41,7 @@ module _ {A : Type 0} {dir : TransferDirection} {step : World → A → World} {
         law = K.law;
       }
 
-  halts : (q : ℕ) (w : World) → Good q w → w.device ≡ Nothing → (more : List A) → ((run step w more).device ≡ Nothing) × ((run step w more).by_steps ≡ w.by_steps)
+  halts : (q : ℕ) (w : World) → Good q w → w.device ≡ None → (more : List A) → ((run step w more).device ≡ None) × ((run step w more).by_steps ≡ w.by_steps)
   halts q w g d [] = (d, refl)
   halts q w g d (a ∷ more) =
       let (p, v, m) = K.law q w g a in

@@ -3,7 +3,7 @@
 -- any order, each call whole; a receive step fills 1 to size bytes." Each rule but `standing Out` is one that a public contract cites.
 use mathlib.Core.{Path.◌≡◌, Logic.◌⊎◌, Logic.◌↔◌, Bool.Bool, Bool.true, Bool.cond}
 use mathlib.Core.List.{List, [], ◌∷◌, ◌++◌, foldl, Memᴰ as Among}
-use Rattle.std.specs.Prelude.{ℕ, zero, suc, ◌+◌, ◌-◌, ◌%◌, ◌^◌, min, ◌≤◌, ◌<◌}
+use Rattle.std.specs.Prelude.{ℕ, zero, suc, ◌+◌, ◌-◌, ◌%◌, ◌^◌, min, ◌≤◌, ◌<◌, Ok, Err}
 use lib.{Dec.eqb, ListN.length, ListN.take, ListN.drop, ListN.get_or, Seq.paste}
 use Rattle.descriptors.specs.{Record.record_in, Record.is_cpu, Place.after, Walk.standing}
 use Rattle.descriptors.specs.Ring.{Ring, Outcome, record_of, sound, new_of, between_of}
@@ -11,12 +11,10 @@ use Rattle.descriptors.specs.declared.record.{DmaDescriptor.DmaDescriptor, Owner
 use Rattle.descriptors.specs.declared.record.Next.{Next, TheVariants.Nothing, TheVariants.At}
 use Rattle.descriptors.specs.declared.record.TransferDirection.{TransferDirection, TheVariants.In, TheVariants.Out}
 use Rattle.descriptors.specs.declared.refusal.{Counted.Counted, Done.Done, DmaBufError.TheVariants.Stopped}
-use Rattle.descriptors.specs.declared.refusal.Counted.TheVariants as counted
-use Rattle.descriptors.specs.declared.refusal.Done.TheVariants as done
 use Rattle.rx_stream.specs.declared.Took.{Took}
-use Rattle.rx_stream.specs.declared.Took.TheVariants as took
 use Rattle.rx_stream.specs.Receive as rx
 use Rattle.tx_stream.specs.Transmit as tx
+use Rattle.descriptors.specs.Refusal.{Answer}
 use Rattle.device.specs.Device.{Stepped, receive_of, receive_into, transmit_of, transmit_over}
 
 -- THE WORLD: the ring, its lent buffer and the device; and the histories: the bytes that calls took (receive) or accepted (transmit),
@@ -34,16 +32,16 @@ world r b d c s v = record { ring = r; bytes = b; device = d; by_calls = c; by_s
 
 -- what an answer tells of the bytes l: as many as it says, and none if it is a refusal
 abbrev pub told : Counted → List ℕ → List ℕ
-told (counted.Bytes k) l = take k l
-told (counted.Refused e) l = []
+told (Ok k) l = take k l
+told (Err e) l = []
 
-abbrev pub told_took : Took → List ℕ → List ℕ
-told_took (took.Bytes k back) l = take k l
-told_took (took.Refused e) l = []
+abbrev pub told_took : Answer Took → List ℕ → List ℕ
+told_took (Ok x) l = take x.taken l
+told_took (Err e) l = []
 
 abbrev pub told_done : Done → List ℕ → List ℕ
-told_done done.Ready l = l
-told_done (done.Refused e) l = []
+told_done (Ok tt) l = l
+told_done (Err e) l = []
 
 -- the record that the device stands on, and that a step is on unless it is refused
 abbrev pub stands_on : Next → List ℕ
@@ -51,8 +49,8 @@ stands_on Nothing = []
 stands_on (At i) = i ∷ []
 
 abbrev pub unless_refused : Counted → List ℕ → List ℕ
-unless_refused (counted.Bytes k) l = l
-unless_refused (counted.Refused e) l = []
+unless_refused (Ok k) l = l
+unless_refused (Err e) l = []
 
 -- a call leaves the buffer b, and takes or accepts of bs what its answer tells; a step receives or sends bs, on the record v
 abbrev pub called : {A : Type 0} → (A → List ℕ → List ℕ) → World → Outcome A → List ℕ → List ℕ → World
@@ -158,7 +156,7 @@ pub record Receive (n : ℕ) (w : World) : Type 0 where
   pub both : Agrees In rx_step n w
   -- "bytes received are bytes taken followed by bytes unread": `available_bytes` counts those, and peek shows the first, one at least
   pub ends : w.by_steps ≡ w.by_calls ++ standing In w.ring w.bytes
-  pub unread : rx.available_of w.ring (length w.bytes) ≡ counted.Bytes (length (standing In w.ring w.bytes))
+  pub unread : rx.available_of w.ring (length w.bytes) ≡ Ok (length (standing In w.ring w.bytes))
   pub shown : (u : Bool) → rx.peek_of u w.ring w.bytes ≡ take (length (rx.peek_of u w.ring w.bytes)) (standing In w.ring w.bytes)
   pub shows : (u : Bool) → 0 < length (standing In w.ring w.bytes) → 0 < length (rx.peek_of u w.ring w.bytes)
   -- "until the device stops, the records its links reach are exactly those holding no unread byte"
@@ -169,7 +167,7 @@ pub record Receive (n : ℕ) (w : World) : Type 0 where
   -- "it stops exactly when it closes a record and every record then holds unread bytes; later steps are refused"
   pub stop : (i : ℕ) → w.device ≡ At i → (a : RxAction)
       → ((rx_step w a).device ≡ Nothing) ↔ (((rx_step w a).visited ≡ w.visited ++ (i ∷ [])) × ((j : ℕ) → j < n → 0 < length (unread_at (rx_step w a) j)))
-  pub refused : w.device ≡ Nothing → (bs : List ℕ) (eof : Bool) → (receive_of w.ring w.device (length w.bytes) (length bs) eof).answer ≡ done.Refused Stopped
+  pub refused : w.device ≡ Nothing → (bs : List ℕ) (eof : Bool) → (receive_of w.ring w.device (length w.bytes) (length bs) eof).answer ≡ Err Stopped
 
 -- "Queued" is the DMA-owned records' bytes, in ring order after the CPU run; "pending" is the offset's bytes at the cursor.
 unfoldable pub dma_data : (ℕ → DmaDescriptor) → List ℕ → ℕ → ℕ → ℕ → List ℕ
@@ -188,12 +186,12 @@ pub record Transmit (n : ℕ) (w : World) : Type 0 where
   pub ends : w.by_calls ≡ w.by_steps ++ (queued_in w.ring w.bytes ++ pending_in w.ring w.bytes)
   -- the device stops exactly when nothing is queued after its step; "later steps are refused"
   pub stop : (i : ℕ) → w.device ≡ At i → (a : TxAction) → ((tx_step w a).device ≡ Nothing) ↔ (queued_in (tx_step w a).ring (tx_step w a).bytes ≡ [])
-  pub refused : w.device ≡ Nothing → (out : List ℕ) → (transmit_of w.ring w.device (length w.bytes) (length out)).answer ≡ counted.Refused Stopped
+  pub refused : w.device ≡ Nothing → (out : List ℕ) → (transmit_of w.ring w.device (length w.bytes) (length out)).answer ≡ Err Stopped
 
 -- THE DEMAND: nothing more is asked of the lent records, the buffer and n than that `new` accepted
 pub record Demand3 : Type 0 where
-  pub receive : (ds : List DmaDescriptor) (n : ℕ) (bytes : List ℕ) → (new_of In ds n (length bytes)).answer ≡ done.Ready → (acts : List RxAction)
+  pub receive : (ds : List DmaDescriptor) (n : ℕ) (bytes : List ℕ) → (new_of In ds n (length bytes)).answer ≡ (Ok tt) → (acts : List RxAction)
       → Receive n (run rx_step (prepared rx.prepare_of (built In ds n bytes)) acts)
-  pub transmit : (ds : List DmaDescriptor) (n : ℕ) (bytes : List ℕ) → (new_of Out ds n (length bytes)).answer ≡ done.Ready → (before : List Prefill)
+  pub transmit : (ds : List DmaDescriptor) (n : ℕ) (bytes : List ℕ) → (new_of Out ds n (length bytes)).answer ≡ (Ok tt) → (before : List Prefill)
       → 0 < length (run prefill (built Out ds n bytes) before).by_calls → (acts : List TxAction)
       → Transmit n (run tx_step (prepared tx.prepare_of (run prefill (built Out ds n bytes) before)) acts)

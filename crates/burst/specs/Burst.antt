@@ -1,13 +1,12 @@
 -- Module 1, "Alignment".
-use Rattle.std.specs.Prelude.{ℕ, ◌+◌, ◌%◌, max, Bool, cond, ◌&&◌, ◌||◌, eqb, leb, ltb}
+use Rattle.std.specs.Prelude.{ℕ, ◌+◌, ◌%◌, max, Bool, cond, ◌&&◌, ◌||◌, eqb, leb, ltb, Ok, Err}
 use Rattle.std.specs.Int.Count.{ones}
 use Rattle.descriptors.specs.Record.{top}
 use Rattle.descriptors.specs.declared.record.TransferDirection.{TransferDirection}
 use Rattle.descriptors.specs.declared.record.TransferDirection.TheVariants.{In, Out}
 use Rattle.descriptors.specs.declared.refusal.DmaAlignmentError.TheVariants.{Address, Size}
 use Rattle.descriptors.specs.declared.refusal.DmaBufError.TheVariants.{UnsupportedMemoryRegion, InvalidAlignment, BadAlignment}
-use Rattle.descriptors.specs.declared.refusal.Done.{Done}
-use Rattle.descriptors.specs.declared.refusal.Done.TheVariants.{Ready, Refused}
+use Rattle.descriptors.specs.Refusal.{Answer}
 use Rattle.burst.specs.declared.Region.{Region}
 
 abbrev pub widest : ℕ
@@ -31,19 +30,19 @@ alignment_at address external ai ae =
     cond (leb external.start address && ltb address external.end) (max ai ae) ai
 
 -- "then 10 if the address is no multiple; then, for In only, 11 if the length is none"
-abbrev pub sized_of : ℕ → TransferDirection → ℕ → Done
-sized_of length In a = cond (eqb (length % a) 0) Ready (Refused (InvalidAlignment Size))
-sized_of length Out a = Ready
+abbrev pub sized_of : ℕ → TransferDirection → ℕ → Answer Unit
+sized_of length In a = cond (eqb (length % a) 0) (Ok tt) (Err (InvalidAlignment Size))
+sized_of length Out a = Ok tt
 
-unfoldable pub aligned_of : ℕ → ℕ → TransferDirection → ℕ → Done
-aligned_of address length dir a = cond (eqb (address % a) 0) (sized_of length dir a) (Refused (InvalidAlignment Address))
+unfoldable pub aligned_of : ℕ → ℕ → TransferDirection → ℕ → Answer Unit
+aligned_of address length dir a = cond (eqb (address % a) 0) (sized_of length dir a) (Err (InvalidAlignment Address))
 
 -- "12 first; an empty buffer passes; then 9; then 10 ..; then .. 11"
-unfoldable pub compatible_of : ℕ → ℕ → TransferDirection → Region → Region → ℕ → ℕ → Done
+unfoldable pub compatible_of : ℕ → ℕ → TransferDirection → Region → Region → ℕ → ℕ → Answer Unit
 compatible_of address length dir internal external ai ae =
     cond (is_good ai && is_good ae)
-    (cond (eqb length 0) Ready
+    (cond (eqb length 0) (Ok tt)
     (cond (supported address (address + length) internal external)
     (aligned_of address length dir (alignment_at address external ai ae))
-    (Refused UnsupportedMemoryRegion)))
-    (Refused BadAlignment)
+    (Err UnsupportedMemoryRegion)))
+    (Err BadAlignment)

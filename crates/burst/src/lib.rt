@@ -5,7 +5,7 @@ ghost use Rattle.std.specs.Prelude.{◌≡◌, ◌<◌};
 ghost use Rattle.burst.specs.Burst.{is_good, holds, supported, alignment_at, aligned_of, compatible_of};
 
 use descriptors::record::{TOP, TransferDirection};
-use descriptors::refusal::{DmaAlignmentError, DmaBufError, Done};
+use descriptors::refusal::{DmaAlignmentError, DmaBufError};
 
 // The largest alignment.
 pub const WIDEST: u32 = 64;
@@ -74,20 +74,20 @@ fn ensure_buffer_aligned(
     length: u32,
     direction: TransferDirection,
     alignment: u32,
-) -> Done
+) -> Result<(), DmaBufError>
     requires { 0 < alignment }
     ensures { result ≡ aligned_of address length direction alignment }
 {
     if address % alignment != 0 {
-        return Done::Refused(DmaBufError::InvalidAlignment(DmaAlignmentError::Address));
+        return Err(DmaBufError::InvalidAlignment(DmaAlignmentError::Address));
     }
     match direction {
-        TransferDirection::Out => Done::Ready,
+        TransferDirection::Out => Ok(()),
         TransferDirection::In => {
             if length % alignment != 0 {
-                return Done::Refused(DmaBufError::InvalidAlignment(DmaAlignmentError::Size));
+                return Err(DmaBufError::InvalidAlignment(DmaAlignmentError::Size));
             }
-            Done::Ready
+            Ok(())
         }
     }
 }
@@ -101,22 +101,22 @@ pub fn ensure_buffer_compatible(
     external: Region,
     internal_alignment: u32,
     external_alignment: u32,
-) -> Done
+) -> Result<(), DmaBufError>
     ensures { result ≡ compatible_of address length direction internal external internal_alignment external_alignment }
 {
     if !is_good(internal_alignment) {
-        return Done::Refused(DmaBufError::BadAlignment);
+        return Err(DmaBufError::BadAlignment);
     }
     if !is_good(external_alignment) {
-        return Done::Refused(DmaBufError::BadAlignment);
+        return Err(DmaBufError::BadAlignment);
     }
     if length == 0 {
-        return Done::Ready;
+        return Ok(());
     }
     let start = address as u64;
     let end = start + length as u64;
     if !is_supported(start, end, internal, external) {
-        return Done::Refused(DmaBufError::UnsupportedMemoryRegion);
+        return Err(DmaBufError::UnsupportedMemoryRegion);
     }
     let alignment = min_alignment(start, external, internal_alignment, external_alignment);
     ensure_buffer_aligned(address, length, direction, alignment)

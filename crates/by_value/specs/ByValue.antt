@@ -1,16 +1,14 @@
 -- A ring as one struct, words and head, that goes in and comes back by value.
-use Rattle.std.specs.Prelude.{ℕ, List}
+use Rattle.std.specs.Prelude.{ℕ, List, Ok, Err}
 use Rattle.descriptors.specs.Cells.{cells_now}
 use Rattle.descriptors.specs.Ring.{Outcome, ring_of, head_of}
 use Rattle.descriptors.specs.Ring as rule
-use Rattle.descriptors.specs.declared.refusal.Counted.{Counted}
-use Rattle.descriptors.specs.declared.refusal.Counted.TheVariants as counted
 use Rattle.descriptors.specs.declared.ring.Head.{Head}
 use Rattle.rx_stream.specs.declared.Took.{Took}
-use Rattle.rx_stream.specs.declared.Took.TheVariants as took
 use Rattle.rx_stream.specs.declared.view.DmaRxStreamBufView.{DmaRxStreamBufView}
 use Rattle.tx_stream.specs.declared.view.DmaTxStreamBufView.{DmaTxStreamBufView}
 use Rattle.by_value.specs.declared.Ring.{Ring}
+use Rattle.descriptors.specs.Refusal.{Answer}
 use Rattle.by_value.specs.declared.Answered.{Answered}
 
 abbrev pub head_in : Ring → Head
@@ -41,20 +39,20 @@ whole st ws h =
     }
 
 -- the bytes of an answer: a refusal has none
-abbrev pub bytes_of : Counted → ℕ
-bytes_of (counted.Bytes n) = n
-bytes_of (counted.Refused _) = 0
+abbrev pub bytes_of : Answer ℕ → ℕ
+bytes_of (Ok n) = n
+bytes_of (Err _) = 0
 
-abbrev pub taken_of : Took → ℕ
-taken_of (took.Bytes n _) = n
-taken_of (took.Refused _) = 0
+abbrev pub taken_of : Answer Took → ℕ
+taken_of (Ok x) = x.taken
+taken_of (Err _) = 0
 
 -- the struct once the ring has become what a rule leaves: no call changes a start
 abbrev pub left : Ring → rule.Ring → Ring
 left r after = whole r.starts (cells_now r.starts r.cells after.descriptors) (head_of after)
 
-abbrev pub counted_of : Ring → Outcome Counted → Answered
+abbrev pub counted_of : Ring → Outcome (Answer ℕ) → Answered
 counted_of r o = record { ring = left r o.ring; bytes = bytes_of o.answer }
 
-abbrev pub took_of : Ring → Outcome Took → Answered
+abbrev pub took_of : Ring → Outcome (Answer Took) → Answered
 took_of r o = record { ring = left r o.ring; bytes = taken_of o.answer }

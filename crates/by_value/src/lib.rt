@@ -11,7 +11,6 @@ ghost use Rattle.by_value.specs.ByValue.{given, rx_of, tx_of, whole, bytes_of, t
 
 use descriptors::cells::CELLS;
 use descriptors::record::LIMIT;
-use descriptors::refusal::Counted;
 use descriptors::ring::Head;
 use rx_stream::Took;
 use rx_stream::view::DmaRxStreamBufView;
@@ -108,21 +107,21 @@ fn from_tx(view: DmaTxStreamBufView) -> Ring
     }
 }
 
-fn counted(answer: Counted) -> usize
+fn counted(answer: Result<usize, DmaBufError>) -> usize
     ensures { result ≡ bytes_of answer }
 {
     match answer {
-        Counted::Bytes(bytes) => bytes,
-        Counted::Refused(_) => 0,
+        Ok(bytes) => bytes,
+        Err(_) => 0,
     }
 }
 
-fn taken(answer: Took) -> usize
+fn taken(answer: Result<Took, DmaBufError>) -> usize
     ensures { result ≡ taken_of answer }
 {
     match answer {
-        Took::Bytes { taken, back: _ } => taken,
-        Took::Refused(_) => 0,
+        Ok(Took { taken, back: _ }) => taken,
+        Err(_) => 0,
     }
 }
 

@@ -1,11 +1,9 @@
 -- A ring lent as words: a head of five (count, record, offset, tally, prefilled count), the starts and the cells. And the device's
 -- place, one word.
-use Rattle.std.specs.Prelude.{ℕ, Bool, cond, ◌&&◌, List, [], ◌∷◌, eqb, leb, ltb, get_or, length}
+use Rattle.std.specs.Prelude.{ℕ, Bool, cond, ◌&&◌, List, [], ◌∷◌, eqb, leb, ltb, get_or, length, None, Option}
 use Rattle.descriptors.specs.Record.{limit}
 use Rattle.descriptors.specs.Cells.{next_of, next_cell}
 use Rattle.descriptors.specs.Ring.{Ring, ring_of}
-use Rattle.descriptors.specs.declared.record.Next.{Next}
-use Rattle.descriptors.specs.declared.record.Next.TheVariants.{Nothing}
 use Rattle.descriptors.specs.declared.ring.Head.{Head}
 
 abbrev pub head_read : List ℕ → Head
@@ -43,8 +41,8 @@ lent_ring ready hw st ws = ring_of st ws (head_in ready hw)
 unfoldable pub is_place : List ℕ → Bool
 is_place dw = eqb (length dw) 1 && leb (get_or dw 0 0) limit
 
-unfoldable pub next_in : Bool → List ℕ → Next
-next_in ready dw = cond (ready && is_place dw) (next_of (get_or dw 0 0)) Nothing
+unfoldable pub next_in : Bool → List ℕ → Option ℕ
+next_in ready dw = cond (ready && is_place dw) (next_of (get_or dw 0 0)) None
 
-unfoldable pub place_now : Bool → List ℕ → Next → List ℕ
+unfoldable pub place_now : Bool → List ℕ → Option ℕ → List ℕ
 place_now ready dw dev = cond (ready && is_place dw) (next_cell dev ∷ []) dw

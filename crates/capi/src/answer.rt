@@ -4,7 +4,7 @@ ghost use Rattle.descriptors.specs.Refusal.{number_of};
 ghost use Rattle.capi.specs.Answer.{has_room, answered, said_number, said_in, done_number, done_said, counted_said, took_said};
 
 use descriptors::refusal;
-use descriptors::refusal::{Counted, DmaBufError, Done};
+use descriptors::refusal::DmaBufError;
 use rx_stream::Took;
 
 pub(crate) const WORDS: usize = 3;
@@ -39,71 +39,71 @@ fn store(answer: &mut [u64], first: usize, second: usize, third: usize)
 pub(crate) fn number(refusal: DmaBufError) -> u32
     ensures { result ≡ number_of refusal }
 {
-    refusal::number(refusal) as u32
+    u8::from(refusal) as u32
 }
 
 // Every call that answers ends with this.
-pub(crate) fn put(answer: &mut [u64], said: Said) -> u32
+pub(crate) fn put(answer: &mut [u64], said: Result<Said, DmaBufError>) -> u32
     ensures value { result ≡ said_number said }
     ensures answer_after { answer.new ≡ said_in answer.old said }
 {
     match said {
-        Said::Refused(e) => number(e),
-        Said::Words {
+        Err(e) => number(e),
+        Ok(Said {
             first,
             second,
             third,
-        } => {
+        }) => {
             store(answer, first, second, third);
             0
         }
     }
 }
 
-pub(crate) fn done(answer: Done) -> u32
+pub(crate) fn done(answer: Result<(), DmaBufError>) -> u32
     ensures { result ≡ done_number answer }
 {
     match answer {
-        Done::Ready => 0,
-        Done::Refused(e) => number(e),
+        Ok(()) => 0,
+        Err(e) => number(e),
     }
 }
 
-pub(crate) fn done_with(answer: Done, bytes: usize) -> Said
+pub(crate) fn done_with(answer: Result<(), DmaBufError>, bytes: usize) -> Result<Said, DmaBufError>
     ensures { result ≡ done_said bytes answer }
 {
     match answer {
-        Done::Ready => Said::Words {
+        Ok(()) => Ok(Said {
             first: bytes,
             second: 0,
             third: 0,
-        },
-        Done::Refused(e) => Said::Refused(e),
+        }),
+        Err(e) => Err(e),
     }
 }
 
-pub(crate) fn counted(answer: Counted) -> Said
+pub(crate) fn counted(answer: Result<usize, DmaBufError>) -> Result<Said, DmaBufError>
     ensures { result ≡ counted_said answer }
 {
     match answer {
-        Counted::Bytes(bytes) => Said::Words {
+        Ok(bytes) => Ok(Said {
             first: bytes,
             second: 0,
             third: 0,
-        },
-        Counted::Refused(e) => Said::Refused(e),
+        }),
+        Err(e) => Err(e),
     }
 }
 
-pub(crate) fn took(answer: Took) -> Said
+pub(crate) fn took(answer: Result<Took, DmaBufError>) -> Result<Said, DmaBufError>
     ensures { result ≡ took_said answer }
 {
     match answer {
-        Took::Bytes { taken, back } => Said::Words {
+        Ok(Took { taken, back }) => Ok(Said {
             first: taken,
             second: back,
             third: 0,
-        },
-        Took::Refused(e) => Said::Refused(e),
+        }),
+        Err(e) => Err(e),
     }
 }

@@ -6,7 +6,7 @@ ghost use Rattle.capi.specs.Parts.{peek_said, until_eof_said};
 
 use crate::answer::Said;
 use descriptors::record::TransferDirection;
-use descriptors::refusal::{DmaBufError, Done};
+use descriptors::refusal::DmaBufError;
 use descriptors::ring::Head;
 use descriptors::{cells, ring};
 use rx_stream::piece;
@@ -17,40 +17,40 @@ fn mark(eof: bool) -> usize
     if eof { 1 } else { 0 }
 }
 
-pub(crate) fn peeked<'a>(s: &'a [u32], w: &'a [u16], h: Head, until_eof: bool, len: usize) -> Said
+pub(crate) fn peeked<'a>(s: &'a [u32], w: &'a [u16], h: Head, until_eof: bool, len: usize) -> Result<Said, DmaBufError>
     ensures { result ≡ peek_said until_eof (ring_of s.now w.now h) len }
 {
     let answer = ring::judge(TransferDirection::In, s, w, h, len);
-    let Done::Ready = answer else {
-        return Said::Refused(DmaBufError::BadState);
+    let Ok(()) = answer else {
+        return Err(DmaBufError::BadState);
     };
     let i = h.descriptor_idx;
     let bytes = piece::flat_bytes(w, until_eof, h.count, i);
     let start = cells::start_of(s, i) as usize;
-    Said::Words {
+    Ok(Said {
         first: start + h.descriptor_offset,
         second: bytes - h.descriptor_offset,
         third: 0,
-    }
+    })
 }
 
 // The same with the yes or no.
-pub(crate) fn until_eof<'a>(s: &'a [u32], w: &'a [u16], h: Head, len: usize) -> Said
+pub(crate) fn until_eof<'a>(s: &'a [u32], w: &'a [u16], h: Head, len: usize) -> Result<Said, DmaBufError>
     ensures { result ≡ until_eof_said (ring_of s.now w.now h) len }
 {
     let said = peeked(s, w, h, true, len);
-    let Said::Words {
+    let Ok(Said {
         first,
         second,
         third: _,
-    } = said
+    }) = said
     else {
         return said;
     };
     let eof = piece::flat_eof(w, h.count, h.descriptor_idx);
-    Said::Words {
+    Ok(Said {
         first,
         second,
         third: mark(eof),
-    }
+    })
 }

@@ -6,17 +6,16 @@ ghost use Rattle.capi.specs.New.{head_if, new_number, new_head, new_starts, new_
 
 use crate::{answer, words};
 use descriptors::record::TransferDirection;
-use descriptors::refusal::Done;
 use descriptors::ring;
 use descriptors::ring::Head;
 
 // The head is written where the ring is made.
-fn put_if(head: &mut [u64], outcome: Done, h: Head)
+fn put_if(head: &mut [u64], outcome: Result<(), DmaBufError>, h: Head)
     ensures { head.new ≡ head_if outcome head.old h }
 {
     match outcome {
-        Done::Ready => words::put(head, h),
-        Done::Refused(_) => {}
+        Ok(()) => words::put(head, h),
+        Err(_) => {}
     }
 }
 

@@ -5,7 +5,6 @@ ghost use Rattle.capi.specs.Parts.{offer_said, prefill_offer_said};
 
 use crate::answer::Said;
 use descriptors::cells;
-use descriptors::refusal::{Counted, Done};
 use descriptors::ring::Head;
 use tx_stream::{in_place, prefill};
 
@@ -16,32 +15,32 @@ fn least(a: usize, b: usize) -> usize
 }
 
 // The free bytes from the cursor to the buffer's end.
-pub(crate) fn offered<'a>(s: &'a [u32], w: &'a [u16], h: Head, len: usize) -> Said
+pub(crate) fn offered<'a>(s: &'a [u32], w: &'a [u16], h: Head, len: usize) -> Result<Said, DmaBufError>
     ensures { result ≡ offer_said (ring_of s.now w.now h) len }
 {
     match in_place::available_in(s, w, h, len) {
-        Counted::Refused(e) => Said::Refused(e),
-        Counted::Bytes(free) => {
+        Err(e) => Err(e),
+        Ok(free) => {
             let at = cells::start_of(s, h.descriptor_idx) as usize + h.descriptor_offset;
-            Said::Words {
+            Ok(Said {
                 first: at,
                 second: least(free, len - at),
                 third: 0,
-            }
+            })
         }
     }
 }
 
 // Before `prepare`: all behind the prefilled bytes.
-pub(crate) fn prefill_offered<'a>(s: &'a [u32], w: &'a [u16], h: Head, len: usize) -> Said
+pub(crate) fn prefill_offered<'a>(s: &'a [u32], w: &'a [u16], h: Head, len: usize) -> Result<Said, DmaBufError>
     ensures { result ≡ prefill_offer_said (ring_of s.now w.now h) len }
 {
     match prefill::prefill_offer_refusal_in(s, w, h, len) {
-        Done::Refused(e) => Said::Refused(e),
-        Done::Ready => Said::Words {
+        Err(e) => Err(e),
+        Ok(()) => Ok(Said {
             first: h.pre_filled,
             second: len - h.pre_filled,
             third: 0,
-        },
+        }),
     }
 }

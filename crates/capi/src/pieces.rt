@@ -32,47 +32,47 @@ fn piece_ready(answer: &[u64], chip: u32) -> bool
     answer::has_room(answer)
 }
 
-fn said_cut(outcome: Cut) -> Said
+fn said_cut(outcome: Result<Cut, DmaBufError>) -> Result<Said, DmaBufError>
     ensures { result ≡ cut_said outcome }
 {
     match outcome {
-        Cut::Parts { head, middle, tail } => Said::Words {
+        Ok(Cut { head, middle, tail }) => Ok(Said {
             first: head,
             second: middle,
             third: tail,
-        },
-        Cut::Refused(e) => Said::Refused(e),
+        }),
+        Err(e) => Err(e),
     }
 }
 
-fn said_listed(outcome: Listed) -> Said
+fn said_listed(outcome: Result<Listed, DmaBufError>) -> Result<Said, DmaBufError>
     ensures { result ≡ listed_said outcome }
 {
     match outcome {
-        Listed::Bytes { covered, used } => Said::Words {
+        Ok(Listed { covered, used }) => Ok(Said {
             first: covered,
             second: used,
             third: 0,
-        },
-        Listed::Refused(e) => Said::Refused(e),
+        }),
+        Err(e) => Err(e),
     }
 }
 
-fn said_held(outcome: Held) -> Said
+fn said_held(outcome: Result<Held, DmaBufError>) -> Result<Said, DmaBufError>
     ensures { result ≡ held_said outcome }
 {
     match outcome {
-        Held::InStore { start, size } => Said::Words {
+        Ok(Held::InStore { start, size }) => Ok(Said {
             first: 0,
             second: start,
             third: size,
-        },
-        Held::InRange { start, size } => Said::Words {
+        }),
+        Ok(Held::InRange { start, size }) => Ok(Said {
             first: 1,
             second: start,
             third: size,
-        },
-        Held::Refused(e) => Said::Refused(e),
+        }),
+        Err(e) => Err(e),
     }
 }
 

@@ -4,7 +4,6 @@ ghost use Rattle.std.specs.Prelude.{◌≡◌};
 ghost use Rattle.descriptors.specs.Cells.{next_cell};
 ghost use Rattle.capi.specs.Words.{no_head, is_head, head_in, head_now, head_made, is_place, next_in, place_now};
 
-use descriptors::record::Next;
 use descriptors::ring::Head;
 
 pub(crate) const WORDS: usize = 5;
@@ -103,32 +102,32 @@ pub(crate) fn is_place(device: &[u64]) -> bool
     device[0] <= 64
 }
 
-pub(crate) fn place_of(device: &[u64], ready: bool) -> Next
+pub(crate) fn place_of(device: &[u64], ready: bool) -> Option<u16>
     ensures { result ≡ next_in ready device.now }
 {
     if !ready {
-        return Next::Nothing;
+        return None;
     }
     if !is_place(device) {
-        return Next::Nothing;
+        return None;
     }
     let place = device[0];
     if place == 0 {
-        return Next::Nothing;
+        return None;
     }
-    Next::At((place - 1) as u16)
+    Some((place - 1) as u16)
 }
 
-fn place_word(place: Next) -> u64
+fn place_word(place: Option<u16>) -> u64
     ensures { result ≡ next_cell place }
 {
     match place {
-        Next::Nothing => 0,
-        Next::At(i) => i as u64 + 1,
+        None => 0,
+        Some(i) => i as u64 + 1,
     }
 }
 
-pub(crate) fn put_place(device: &mut [u64], ready: bool, place: Next)
+pub(crate) fn put_place(device: &mut [u64], ready: bool, place: Option<u16>)
     ensures { device.new ≡ place_now ready device.old place }
 {
     if !ready {

@@ -1,11 +1,9 @@
 -- How a ring stores its records: the starts, and the cells, of which size, length, next, owner and EOF have a block each.
 -- Nothing else in specs/ knows of cells: every rule speaks of the records that they show.
-use Rattle.std.specs.Prelude.{ℕ, zero, suc, ◌+◌, ◌*◌, Bool, true, false, cond, ◌&&◌, leb, List, [], ◌∷◌, ◌++◌, map, length, get_or, set, ◌==◌, nat_lt}
+use Rattle.std.specs.Prelude.{ℕ, zero, suc, ◌+◌, ◌*◌, Bool, true, false, cond, ◌&&◌, leb, List, [], ◌∷◌, ◌++◌, map, length, get_or, set, ◌==◌, nat_lt, Some, None, Option}
 use Rattle.descriptors.specs.Record.{limit}
 use Rattle.descriptors.specs.declared.record.Owner.{Owner}
 use Rattle.descriptors.specs.declared.record.Owner.TheVariants.{Cpu, Dma}
-use Rattle.descriptors.specs.declared.record.Next.{Next}
-use Rattle.descriptors.specs.declared.record.Next.TheVariants.{Nothing, At}
 use Rattle.descriptors.specs.declared.record.DmaDescriptor.{DmaDescriptor}
 
 abbrev pub blocks : ℕ
@@ -23,9 +21,9 @@ abbrev pub eof_of : ℕ → Bool
 eof_of zero = false
 eof_of (suc k) = true
 
-abbrev pub next_of : ℕ → Next
-next_of zero = Nothing
-next_of (suc j) = At j
+abbrev pub next_of : ℕ → Option ℕ
+next_of zero = None
+next_of (suc j) = Some j
 
 -- and how it is written
 abbrev pub owner_cell : Owner → ℕ
@@ -36,14 +34,14 @@ abbrev pub eof_cell : Bool → ℕ
 eof_cell true = 1
 eof_cell false = 0
 
-abbrev pub next_cell : Next → ℕ
-next_cell Nothing = 0
-next_cell (At j) = j + 1
+abbrev pub next_cell : Option ℕ → ℕ
+next_cell None = 0
+next_cell (Some j) = j + 1
 
 -- a record number that a cell can hold: a store of another changes nothing
-abbrev pub numbered : Next → Bool
-numbered Nothing = true
-numbered (At j) = nat_lt j 65535
+abbrev pub numbered : Option ℕ → Bool
+numbered None = true
+numbered (Some j) = nat_lt j 65535
 
 -- cell i of block b
 abbrev pub cell : ℕ → List ℕ → ℕ → ℕ
@@ -116,7 +114,7 @@ put_size ws i v = put 0 ws i v
 abbrev pub put_length : List ℕ → ℕ → ℕ → List ℕ
 put_length ws i v = put 1 ws i v
 
-abbrev pub put_next : List ℕ → ℕ → Next → List ℕ
+abbrev pub put_next : List ℕ → ℕ → Option ℕ → List ℕ
 put_next ws i x = cond (numbered x) (put 2 ws i (next_cell x)) ws
 
 abbrev pub put_owner : List ℕ → ℕ → Owner → List ℕ

@@ -1,9 +1,7 @@
 -- "A record has: start (offset into the byte buffer), size, length, EOF mark, owner (CPU or DMA), next (a record number or none)."
-use Rattle.std.specs.Prelude.{ℕ, zero, suc, ◌+◌, Bool, true, false, cond, List, ◌==◌, slice_index_or, slice_set}
+use Rattle.std.specs.Prelude.{ℕ, zero, suc, ◌+◌, Bool, true, false, cond, List, ◌==◌, slice_index_or, slice_set, Some, None, Option}
 use Rattle.descriptors.specs.declared.record.Owner.{Owner}
 use Rattle.descriptors.specs.declared.record.Owner.TheVariants.{Cpu, Dma}
-use Rattle.descriptors.specs.declared.record.Next.{Next}
-use Rattle.descriptors.specs.declared.record.Next.TheVariants.{Nothing, At}
 use Rattle.descriptors.specs.declared.record.DmaDescriptor.{DmaDescriptor}
 use Rattle.descriptors.specs.declared.record.TransferDirection.{TransferDirection}
 use Rattle.descriptors.specs.declared.record.TransferDirection.TheVariants.{In, Out}
@@ -24,7 +22,7 @@ top = 4294967296
 
 -- what `get_or` answers past the end of a list of records: no rule reads it
 abbrev pub blank : DmaDescriptor
-blank = record { buffer = 0; size = 0; length = 0; suc_eof = false; owner = Cpu; next = Nothing }
+blank = record { buffer = 0; size = 0; length = 0; suc_eof = false; owner = Cpu; next = None }
 
 abbrev pub record_in : List DmaDescriptor → ℕ → DmaDescriptor
 record_in ds i = slice_index_or ds i blank
@@ -59,18 +57,18 @@ with_eof b d = record { buffer = d.buffer; size = d.size; length = d.length; suc
 abbrev pub with_owner : Owner → DmaDescriptor → DmaDescriptor
 with_owner o d = record { buffer = d.buffer; size = d.size; length = d.length; suc_eof = d.suc_eof; owner = o; next = d.next }
 
-abbrev pub with_next : Next → DmaDescriptor → DmaDescriptor
+abbrev pub with_next : Option ℕ → DmaDescriptor → DmaDescriptor
 with_next x d = record { buffer = d.buffer; size = d.size; length = d.length; suc_eof = d.suc_eof; owner = d.owner; next = x }
 
 -- ---- the transitions of a record
 
 -- "Each record used up goes back: owner DMA, EOF off, length 0, next none"
 abbrev pub given : DmaDescriptor → DmaDescriptor
-given d = record { buffer = d.buffer; size = d.size; length = 0; suc_eof = false; owner = Dma; next = Nothing }
+given d = record { buffer = d.buffer; size = d.size; length = 0; suc_eof = false; owner = Dma; next = None }
 
 -- "each record filled gets owner DMA, length = size, EOF on, next none"
 abbrev pub queued : DmaDescriptor → DmaDescriptor
-queued d = record { buffer = d.buffer; size = d.size; length = d.size; suc_eof = true; owner = Dma; next = Nothing }
+queued d = record { buffer = d.buffer; size = d.size; length = d.size; suc_eof = true; owner = Dma; next = None }
 
 -- a receive step "sets length and EOF, makes it CPU"
 abbrev pub closed : ℕ → Bool → DmaDescriptor → DmaDescriptor
@@ -81,8 +79,8 @@ abbrev pub sent : DmaDescriptor → DmaDescriptor
 sent d = with_owner Cpu d
 
 -- "next i+1, last none"
-abbrev pub following : ℕ → ℕ → Next
-following n i = cond (i + 1 == n) Nothing (At (i + 1))
+abbrev pub following : ℕ → ℕ → Option ℕ
+following n i = cond (i + 1 == n) None (Some (i + 1))
 
 -- `prepare`, receive: "next i+1, last none; all DMA, EOF off, length 0"; transmit: "links as above, all DMA"
 abbrev pub linked : TransferDirection → ℕ → ℕ → DmaDescriptor → DmaDescriptor

@@ -1,8 +1,12 @@
 -- What the counter clerk says no to.
-use Rattle.std.specs.Prelude.{ℕ}
+use Rattle.std.specs.Prelude.{ℕ, Result}
 use Rattle.descriptors.specs.declared.refusal.DmaAlignmentError.TheVariants.{Address, Size}
 use Rattle.descriptors.specs.declared.refusal.DmaBufError.{DmaBufError}
 use Rattle.descriptors.specs.declared.refusal.DmaBufError.TheVariants.{InsufficientDescriptors, InvalidChunkSize, UnevenSplit, TooManyDescriptors, BadState, BadStep, Stopped, TooMuch, UnsupportedMemoryRegion, InvalidAlignment, BadAlignment}
+
+-- what a call answers: a value, or why there is none
+abbrev pub Answer : Type 0 → Type 0
+Answer A = Result A DmaBufError
 
 -- "No. | Name": the number of each refusal
 abbrev pub number_of : DmaBufError → ℕ

@@ -1,21 +1,16 @@
 -- "A ring has n records .., one lent byte buffer, and a cursor (record, offset). The ring also keeps a 32-bit tally" and a prefilled
 -- count. The buffer stands beside it: a rule asks for its length, or for its bytes.
-use Rattle.std.specs.Prelude.{◌≡◌, ℕ, ◌+◌, ◌-◌, ◌%◌, ◌^◌, Bool, true, false, cond, ◌&&◌, ◌||◌, leb, List, length, ◌==◌, nat_eq, nat_le, nat_lt}
+use Rattle.std.specs.Prelude.{◌≡◌, ℕ, ◌+◌, ◌-◌, ◌%◌, ◌^◌, Bool, true, false, cond, ◌&&◌, ◌||◌, leb, List, length, ◌==◌, nat_eq, nat_le, nat_lt, Ok, Err, Some, None, Option}
 use Rattle.descriptors.specs.Record.{record_in, is_cpu, up_to, update, linked}
 use Rattle.descriptors.specs.Cells.{records_of, starts_now, cells_now, all_below}
 use Rattle.descriptors.specs.Split.{split_of, accepts, start_of, size_of, laid_out}
-use Rattle.descriptors.specs.declared.record.Next.{Next}
-use Rattle.descriptors.specs.declared.record.Next.TheVariants.{Nothing, At}
 use Rattle.descriptors.specs.declared.record.DmaDescriptor.{DmaDescriptor}
 use Rattle.descriptors.specs.declared.record.TransferDirection.{TransferDirection}
 use Rattle.descriptors.specs.declared.record.TransferDirection.TheVariants.{In, Out}
 use Rattle.descriptors.specs.declared.refusal.DmaBufError.TheVariants.{BadState}
-use Rattle.descriptors.specs.declared.refusal.Done.{Done}
-use Rattle.descriptors.specs.declared.refusal.Done.TheVariants.{Ready, Refused}
 use Rattle.descriptors.specs.declared.split.Split.{Split}
-use Rattle.descriptors.specs.declared.split.Split.TheVariants as split
 use Rattle.descriptors.specs.declared.ring.Head.{Head}
-use Rattle.descriptors.specs.declared.ring.Headed.{Headed}
+use Rattle.descriptors.specs.Refusal.{Answer}
 
 pub record Ring : Type 0 where
   pub descriptors : List DmaDescriptor
@@ -67,9 +62,9 @@ abbrev pub lengths_ok : List DmaDescriptor → ℕ → Bool
 lengths_ok ds n = all_below (λ i. leb (record_in ds i).length (record_in ds i).size) n
 
 -- "each next is none or below n"
-abbrev pub below : ℕ → Next → Bool
-below n Nothing = true
-below n (At j) = nat_lt j n
+abbrev pub below : ℕ → Option ℕ → Bool
+below n None = true
+below n (Some j) = nat_lt j n
 
 abbrev pub nexts_ok : List DmaDescriptor → ℕ → Bool
 nexts_ok ds n = all_below (λ i. below n (record_in ds i).next) n
@@ -95,9 +90,9 @@ sound dir r len =
     && (nexts_ok r.descriptors r.count && (nat_lt r.idx r.count && offset_ok dir (record_of r r.idx) r.offset)))
 
 -- 5, BadState: "ring not sound"
-abbrev pub judged : Bool → Done
-judged true = Ready
-judged false = Refused BadState
+abbrev pub judged : Bool → Answer Unit
+judged true = Ok tt
+judged false = Err BadState
 
 -- "A refusal returns its number and changes nothing."
 abbrev pub refused : {A : Type 0} → Ring → A → Outcome A
@@ -110,24 +105,24 @@ fresh ds n = record { descriptors = ds; count = n; idx = 0; offset = 0; tally = 
 
 -- "`new` gives cursor (0,0), tally 0 and prefilled count 0." Fewer than n records, as where the words hold none, are refused
 -- last, with 5.
-abbrev pub new_by : TransferDirection → List DmaDescriptor → ℕ → ℕ → Split → Outcome Done
-new_by dir ds n len (split.Parts chunk rest) =
-    cond (nat_lt (length ds) n) (refused (fresh ds n) (Refused BadState)) record { ring = fresh (laid_out dir n len ds) n; answer = Ready }
-new_by dir ds n len (split.Refused e) = refused (fresh ds n) (Refused e)
+abbrev pub new_by : TransferDirection → List DmaDescriptor → ℕ → ℕ → Answer Split → Outcome (Answer Unit)
+new_by dir ds n len (Ok x) =
+    cond (nat_lt (length ds) n) (refused (fresh ds n) (Err BadState)) record { ring = fresh (laid_out dir n len ds) n; answer = Ok tt }
+new_by dir ds n len (Err e) = refused (fresh ds n) (Err e)
 
-unfoldable pub new_of : TransferDirection → List DmaDescriptor → ℕ → ℕ → Outcome Done
+unfoldable pub new_of : TransferDirection → List DmaDescriptor → ℕ → ℕ → Outcome (Answer Unit)
 new_of dir ds n len = new_by dir ds n len (split_of n len)
 
-abbrev pub split_done : Split → Done
-split_done (split.Parts chunk rest) = Ready
-split_done (split.Refused e) = Refused e
+abbrev pub split_done : Answer Split → Answer Unit
+split_done (Ok x) = Ok tt
+split_done (Err e) = Err e
 
 -- what `new` makes of lent words: every word and the head are those of the ring that comes back
-pub record NewIn (dir : TransferDirection) (st ws : List ℕ) (n len : ℕ) (st' ws' : List ℕ) (r : Headed) : Type 0 where
+pub record NewIn (dir : TransferDirection) (st ws : List ℕ) (n len : ℕ) (st' ws' : List ℕ) (h : Head) (a : Answer Unit) : Type 0 where
   pub starts : st' ≡ starts_now st ws (new_of dir (records_of st ws) n len).ring.descriptors
   pub cells : ws' ≡ cells_now st ws (new_of dir (records_of st ws) n len).ring.descriptors
-  pub head : r.head ≡ head_of (new_of dir (records_of st ws) n len).ring
-  pub answer : r.answer ≡ (new_of dir (records_of st ws) n len).answer
+  pub head : h ≡ head_of (new_of dir (records_of st ws) n len).ring
+  pub answer : a ≡ (new_of dir (records_of st ws) n len).answer
 
 -- "wrapping subtract between two readings"
 abbrev pub between_of : ℕ → ℕ → ℕ

@@ -1,26 +1,26 @@
 -- "Split (both `new`s). chunk = len div n, r = len mod n."
-use Rattle.std.specs.Prelude.{ℕ, ◌+◌, ◌*◌, ◌/◌, ◌%◌, Bool, true, false, cond, List, ◌==◌, nat_le, nat_lt}
+use Rattle.std.specs.Prelude.{ℕ, ◌+◌, ◌*◌, ◌/◌, ◌%◌, Bool, true, false, cond, List, ◌==◌, nat_le, nat_lt, Ok, Err}
 use Rattle.descriptors.specs.Record.{least, limit, most, update, up_to, with_buffer, with_size, with_length}
 use Rattle.descriptors.specs.declared.record.DmaDescriptor.{DmaDescriptor}
 use Rattle.descriptors.specs.declared.record.TransferDirection.{TransferDirection}
 use Rattle.descriptors.specs.declared.record.TransferDirection.TheVariants.{In, Out}
 use Rattle.descriptors.specs.declared.refusal.DmaBufError.TheVariants.{InsufficientDescriptors, InvalidChunkSize, UnevenSplit, TooManyDescriptors}
+use Rattle.descriptors.specs.Refusal.{Answer}
 use Rattle.descriptors.specs.declared.split.Split.{Split}
-use Rattle.descriptors.specs.declared.split.Split.TheVariants.{Parts, Refused}
 
 -- "`new` checks in this order: n < 4; n > 64; chunk > 4095; chunk = 0; r >= chunk; last size."
-unfoldable pub split_of : ℕ → ℕ → Split
+unfoldable pub split_of : ℕ → ℕ → Answer Split
 split_of n len =
-    cond (nat_lt n least) (Refused InsufficientDescriptors)
-    (cond (nat_lt limit n) (Refused TooManyDescriptors)
-    (cond (nat_lt most (len / n)) (Refused InsufficientDescriptors)
-    (cond (len / n == 0) (Refused InvalidChunkSize)
-    (cond (nat_le (len / n) (len % n)) (Refused UnevenSplit)
-    (cond (nat_lt most (len / n + len % n)) (Refused InsufficientDescriptors) (Parts (len / n) (len % n)))))))
+    cond (nat_lt n least) (Err InsufficientDescriptors)
+    (cond (nat_lt limit n) (Err TooManyDescriptors)
+    (cond (nat_lt most (len / n)) (Err InsufficientDescriptors)
+    (cond (len / n == 0) (Err InvalidChunkSize)
+    (cond (nat_le (len / n) (len % n)) (Err UnevenSplit)
+    (cond (nat_lt most (len / n + len % n)) (Err InsufficientDescriptors) (Ok (record { chunk = len / n; rest = len % n })))))))
 
-abbrev pub is_parts : Split → Bool
-is_parts (Parts chunk rest) = true
-is_parts (Refused e) = false
+abbrev pub is_parts : Answer Split → Bool
+is_parts (Ok x) = true
+is_parts (Err e) = false
 
 -- "`new` accepts n and the buffer's length"
 abbrev pub accepts : ℕ → ℕ → Bool

@@ -1,22 +1,21 @@
 -- The transitions of records, store by store, on the cells: in the order in which the Rust does them.
-use Rattle.std.specs.Prelude.{ℕ, ◌/◌, true, false, cond, List, nat_le}
+use Rattle.std.specs.Prelude.{ℕ, ◌/◌, true, false, cond, List, nat_le, Some, None}
 use Rattle.descriptors.specs.Record.{limit, following, up_to}
 use Rattle.descriptors.specs.Place.{before, turns}
 use Rattle.descriptors.specs.Cells.{cell, put_start, put_size, put_owner, put_eof, put_length, put_next}
 use Rattle.descriptors.specs.Split.{start_of, size_of}
 use Rattle.descriptors.specs.declared.record.Owner.TheVariants.{Dma}
-use Rattle.descriptors.specs.declared.record.Next.TheVariants.{Nothing, At}
 use Rattle.descriptors.specs.declared.record.TransferDirection.{TransferDirection}
 use Rattle.descriptors.specs.declared.record.TransferDirection.TheVariants.{In, Out}
 
 -- a record handed to the device
 abbrev pub handed_cells : TransferDirection → ℕ → List ℕ → List ℕ
-handed_cells In i ws = put_next (put_length (put_eof (put_owner ws i Dma) i false) i 0) i Nothing
-handed_cells Out i ws = put_next (put_eof (put_length (put_owner ws i Dma) i (cell 0 ws i)) i true) i Nothing
+handed_cells In i ws = put_next (put_length (put_eof (put_owner ws i Dma) i false) i 0) i None
+handed_cells Out i ws = put_next (put_eof (put_length (put_owner ws i Dma) i (cell 0 ws i)) i true) i None
 
 -- "then the previous record's next is set to it"
 unfoldable pub hand_cells : TransferDirection → ℕ → ℕ → List ℕ → List ℕ
-hand_cells dir n i ws = put_next (handed_cells dir i ws) (before n i) (At i)
+hand_cells dir n i ws = put_next (handed_cells dir i ws) (before n i) (Some i)
 
 -- a record linked by `prepare`
 unfoldable pub link_cells : TransferDirection → ℕ → ℕ → List ℕ → List ℕ

@@ -1,11 +1,10 @@
 -- The CPU-owned run from the cursor, in ring order: what is available, how a number of bytes goes through it, and the records that are
 -- handed to the device on the way. Both directions: on receive a record counts for its length and is given back, on transmit it
 -- counts for its size and is queued.
-use Rattle.std.specs.Prelude.{ℕ, zero, suc, ◌+◌, ◌-◌, ◌%◌, ◌^◌, cond, List, [], ◌++◌, take, drop, nat_le, nat_lt}
+use Rattle.std.specs.Prelude.{ℕ, zero, suc, ◌+◌, ◌-◌, ◌%◌, ◌^◌, cond, List, [], ◌++◌, take, drop, nat_le, nat_lt, Some}
 use Rattle.descriptors.specs.Record.{limit, record_in, update, is_cpu, with_next, span_of, handed}
 use Rattle.descriptors.specs.Place.{after, before, turns}
 use Rattle.descriptors.specs.Ring.{Ring}
-use Rattle.descriptors.specs.declared.record.Next.TheVariants.{At}
 use Rattle.descriptors.specs.declared.record.DmaDescriptor.{DmaDescriptor}
 use Rattle.descriptors.specs.declared.record.TransferDirection.{TransferDirection}
 use Rattle.descriptors.specs.declared.walk.Moved.{Moved}
@@ -53,7 +52,7 @@ walk_in dir f n m = cond (nat_le n limit) (walk dir f n n m) m
 
 -- a record handed to the device, "then the previous record's next is set to it"
 unfoldable pub hand_over : TransferDirection → ℕ → ℕ → List DmaDescriptor → List DmaDescriptor
-hand_over dir n i ds = update (update ds i (handed dir)) (before n i) (with_next (At i))
+hand_over dir n i ds = update (update ds i (handed dir)) (before n i) (with_next (Some i))
 
 -- ---- k bytes taken (receive) or accepted (transmit) from the cursor on
 

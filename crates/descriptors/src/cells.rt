@@ -1,10 +1,9 @@
 // The words in which a ring stores its records: a start for each record, and the cells, a block for each other field. A field is
 // read and written here alone, one cell at a time, in the Rust's names. A number that is no record's changes nothing.
 ghost use Rattle.std.specs.Prelude.{◌≡◌, ◌<◌, true};
-ghost use Rattle.descriptors.specs.Record.{is_cpu};
 ghost use Rattle.descriptors.specs.Cells.{cell, put, numbered, next_cell, owner_of, eof_of, next_of, owner_cell, eof_cell, record_at, start_at, put_start, put_size, put_length, put_next, put_owner, put_eof, put_record};
 
-use crate::record::{DmaDescriptor, LIMIT, Next, Owner};
+use crate::record::{DmaDescriptor, LIMIT, Owner};
 
 pub const BLOCKS: usize = 5;
 
@@ -62,15 +61,6 @@ fn put(w: &mut [u16], block: usize, i: usize, v: u16)
     w[LIMIT * block + i] = v;
 }
 
-pub fn is_cpu(owner: Owner) -> bool
-    ensures { result ≡ is_cpu owner }
-{
-    match owner {
-        Owner::Cpu => true,
-        Owner::Dma => false,
-    }
-}
-
 fn owner_cell(owner: Owner) -> u16
     ensures { result ≡ owner_cell owner }
 {
@@ -80,29 +70,30 @@ fn owner_cell(owner: Owner) -> u16
     }
 }
 
-fn eof_cell(eof: bool) -> u16
-    ensures { result ≡ eof_cell eof }
-{
-    if eof { 1 } else { 0 }
-}
-
-fn is_numbered(next: Next) -> bool
+fn is_numbered(next: Option<u16>) -> bool
     ensures { result ≡ numbered next }
 {
     match next {
-        Next::Nothing => true,
-        Next::At(j) => j < UNNUMBERED,
+        None => true,
+        Some(j) => j < UNNUMBERED,
     }
 }
 
-fn next_cell(next: Next) -> u16
+fn next_cell(next: Option<u16>) -> u16
     requires { numbered next ≡ true }
     ensures { result ≡ next_cell next }
 {
     match next {
-        Next::Nothing => 0,
-        Next::At(j) => j + 1,
+        None => 0,
+        Some(j) => j + 1,
     }
+}
+
+// The words of a ring by value.
+#[derive(Clone, Copy, Debug)]
+pub struct Words {
+    pub starts: [u32; LIMIT],
+    pub cells: [u16; CELLS],
 }
 
 // ---- a record's fields, read
@@ -140,20 +131,17 @@ pub fn owner_of(w: &[u16], i: usize) -> Owner
 pub fn suc_eof_of(w: &[u16], i: usize) -> bool
     ensures { result ≡ eof_of (cell 4 w.now i) }
 {
-    if cell(w, EOF, i) == 0 {
-        return false;
-    }
-    true
+    cell(w, EOF, i) != 0
 }
 
-pub fn next_of(w: &[u16], i: usize) -> Next
+pub fn next_of(w: &[u16], i: usize) -> Option<u16>
     ensures { result ≡ next_of (cell 2 w.now i) }
 {
     let c = cell(w, NEXT, i);
     if c == 0 {
-        return Next::Nothing;
+        return None;
     }
-    Next::At((c - 1) as u16)
+    Some((c - 1) as u16)
 }
 
 // ---- a record's fields, written
@@ -181,7 +169,7 @@ pub fn set_length(w: &mut [u16], i: usize, length: u16)
 pub fn set_suc_eof(w: &mut [u16], i: usize, eof: bool)
     ensures { w.new ≡ put_eof w.old i eof }
 {
-    put(w, EOF, i, eof_cell(eof));
+    put(w, EOF, i, u16::from(eof));
 }
 
 pub fn set_owner(w: &mut [u16], i: usize, owner: Owner)
@@ -190,7 +178,7 @@ pub fn set_owner(w: &mut [u16], i: usize, owner: Owner)
     put(w, OWNER, i, owner_cell(owner));
 }
 
-pub fn set_next(w: &mut [u16], i: usize, next: Next)
+pub fn set_next(w: &mut [u16], i: usize, next: Option<u16>)
     ensures { w.new ≡ put_next w.old i next }
 {
     if is_numbered(next) {
@@ -200,10 +188,10 @@ pub fn set_next(w: &mut [u16], i: usize, next: Next)
 
 // Record i leads to record `to`.
 pub fn link_to(w: &mut [u16], i: usize, to: usize)
-    ensures { w.new ≡ put_next w.old i (Next.At to) }
+    ensures { w.new ≡ put_next w.old i (Some to) }
 {
     if to < 65535 {
-        set_next(w, i, Next::At(to as u16));
+        set_next(w, i, Some(to as u16));
     }
 }
 
@@ -212,31 +200,23 @@ pub fn link_to(w: &mut [u16], i: usize, to: usize)
 pub fn descriptor<'a>(s: &'a [u32], w: &'a [u16], i: usize) -> DmaDescriptor
     ensures { result ≡ record_at s.now w.now i }
 {
-    let buffer = start_of(s, i);
-    let size = size_of(w, i) as u16;
-    let length = length_of(w, i) as u16;
-    let suc_eof = suc_eof_of(w, i);
-    let owner = owner_of(w, i);
-    let next = next_of(w, i);
     DmaDescriptor {
-        buffer,
-        size,
-        length,
-        suc_eof,
-        owner,
-        next,
+        buffer: start_of(s, i),
+        size: size_of(w, i) as u16,
+        length: length_of(w, i) as u16,
+        suc_eof: suc_eof_of(w, i),
+        owner: owner_of(w, i),
+        next: next_of(w, i),
     }
 }
 
 pub fn set_descriptor(s: &mut [u32], w: &mut [u16], i: usize, d: DmaDescriptor)
     ensures { (s.new ≡ put_start s.old i d.buffer) × (w.new ≡ put_record w.old i d) }
 {
-    let owner = d.owner;
-    let next = d.next;
     set_buffer(s, i, d.buffer);
     set_size(w, i, d.size);
     set_length(w, i, d.length);
     set_suc_eof(w, i, d.suc_eof);
-    set_owner(w, i, owner);
-    set_next(w, i, next);
+    set_owner(w, i, d.owner);
+    set_next(w, i, d.next);
 }

@@ -4,15 +4,15 @@ ghost use Rattle.std.specs.Prelude.{◌≡◌, ◌+◌, ◌-◌, ◌*◌, ◌/�
 ghost use Rattle.descriptors.specs.Record.{limit, up_to};
 ghost use Rattle.descriptors.specs.Cells.{cells, record_at, all_below, are_records};
 ghost use Rattle.descriptors.specs.Stores.{lay_start, lay_size, lay_cells};
-ghost use Rattle.descriptors.specs.Ring.{ring_of, offset_ok, sound, split_sound, judged, split_done, NewIn, between_of};
+ghost use Rattle.descriptors.specs.Ring.{ring_of, offset_ok, sound, split_sound, judged, NewIn, between_of};
 
 use crate::cells::CELLS;
 use crate::record::{LIMIT, TransferDirection};
-use crate::refusal::{DmaBufError, Done};
+use crate::refusal::DmaBufError;
 use crate::split::Split;
-use crate::{cells, split, walk};
+use crate::{cells, split};
 
-#[derive(Clone, Copy)]
+#[derive(Clone, Copy, Debug, PartialEq, Eq, Default)]
 pub struct Head {
     pub count: usize,
     pub descriptor_idx: usize,
@@ -21,11 +21,11 @@ pub struct Head {
     pub pre_filled: usize,
 }
 
-// What a call in place answers, with the head that it leaves.
-#[derive(Clone, Copy)]
-pub struct Headed {
-    pub head: Head,
-    pub answer: Done,
+// What a call by value answers, and the ring that it leaves.
+#[derive(Clone, Copy, Debug)]
+pub struct Kept<R, A> {
+    pub ring: R,
+    pub answer: Result<A, DmaBufError>,
 }
 
 // ---- the scans
@@ -35,12 +35,10 @@ fn marks_ok(w: &[u16]) -> bool
     ensures { result ≡ all_below (λ j. nat_le (slice_index w.now (limit * 3 + j)) 1) (2 * limit) }
 {
     let mut ok = true;
-    let mut j: usize = 0;
-    while j < 2 * LIMIT {
+    for j in 0..2 * LIMIT {
         if 1 < w[3 * LIMIT + j] {
             ok = false;
         }
-        j += 1;
     }
     ok
 }
@@ -52,13 +50,11 @@ fn starts_ok(s: &[u32], n: usize, chunk: usize) -> bool
     let step = chunk as u32;
     let mut ok = true;
     let mut start: u32 = 0;
-    let mut i: usize = 0;
-    while i < n {
+    for i in 0..n {
         if s[i] != start {
             ok = false;
         }
         start = std::num::wrapping_add_u32(s[i], step);
-        i += 1;
     }
     ok
 }
@@ -81,12 +77,10 @@ fn sizes_ok(w: &[u16], n: usize, chunk: usize, last: usize) -> bool
     let size = chunk as u16;
     let end = scan_end(n, chunk, last);
     let mut ok = true;
-    let mut i: usize = 0;
-    while i < end {
+    for i in 0..end {
         if w[i] != size {
             ok = false;
         }
-        i += 1;
     }
     if w[n - 1] != last as u16 {
         return false;
@@ -99,12 +93,10 @@ fn lengths_ok(w: &[u16], n: usize) -> bool
     ensures { result ≡ all_below (λ i. nat_le (slice_index w.now (limit + i)) (slice_index w.now i)) n }
 {
     let mut ok = true;
-    let mut i: usize = 0;
-    while i < n {
+    for i in 0..n {
         if w[i] < w[LIMIT + i] {
             ok = false;
         }
-        i += 1;
     }
     ok
 }
@@ -115,12 +107,10 @@ fn nexts_ok(w: &[u16], n: usize) -> bool
 {
     let most = n as u16;
     let mut ok = true;
-    let mut i: usize = 0;
-    while i < n {
+    for i in 0..n {
         if most < w[2 * LIMIT + i] {
             ok = false;
         }
-        i += 1;
     }
     ok
 }
@@ -166,8 +156,7 @@ fn offset_out(cpu: bool, size: usize, offset: usize) -> bool
 fn offset_ok(w: &[u16], dir: TransferDirection, i: usize, offset: usize) -> bool
     ensures { result ≡ offset_ok dir (record_at [] w.now i) offset }
 {
-    let owner = cells::owner_of(w, i);
-    let cpu = cells::is_cpu(owner);
+    let cpu = cells::owner_of(w, i).is_cpu();
     match dir {
         TransferDirection::In => offset_in(cpu, cells::length_of(w, i), offset),
         TransferDirection::Out => offset_out(cpu, cells::size_of(w, i), offset),
@@ -175,52 +164,54 @@ fn offset_ok(w: &[u16], dir: TransferDirection, i: usize, offset: usize) -> bool
 }
 
 // What `prepare` and the calls before it ask for: the split and the prefilled count.
-pub fn judge_split<'a>(s: &'a [u32], w: &'a [u16], h: Head, len: usize) -> Done
+pub fn judge_split<'a>(s: &'a [u32], w: &'a [u16], h: Head, len: usize) -> Result<(), DmaBufError>
     ensures { result ≡ judged (split_sound (ring_of s.now w.now h) len) }
 {
     let n = h.count;
-    let parts = split::split_of(n, len);
-    let Split::Parts { chunk, rest } = parts else {
-        return Done::Refused(DmaBufError::BadState);
+    let Ok(Split { chunk, rest }) = split::split_of(n, len) else {
+        return Err(DmaBufError::BadState);
     };
     if !are_records(s, w) {
-        return Done::Refused(DmaBufError::BadState);
+        return Err(DmaBufError::BadState);
     }
     if !starts_ok(s, n, chunk) {
-        return Done::Refused(DmaBufError::BadState);
+        return Err(DmaBufError::BadState);
     }
     if !sizes_ok(w, n, chunk, chunk + rest) {
-        return Done::Refused(DmaBufError::BadState);
+        return Err(DmaBufError::BadState);
     }
     if len < h.pre_filled {
-        return Done::Refused(DmaBufError::BadState);
+        return Err(DmaBufError::BadState);
     }
-    Done::Ready
+    Ok(())
 }
 
 // What every other call asks for first.
-pub fn judge<'a>(dir: TransferDirection, s: &'a [u32], w: &'a [u16], h: Head, len: usize) -> Done
+pub fn judge<'a>(
+    dir: TransferDirection,
+    s: &'a [u32],
+    w: &'a [u16],
+    h: Head,
+    len: usize,
+) -> Result<(), DmaBufError>
     ensures { result ≡ judged (sound dir (ring_of s.now w.now h) len) }
 {
-    let answer = judge_split(s, w, h, len);
-    let Done::Ready = answer else {
-        return answer;
-    };
+    judge_split(s, w, h, len)?;
     let n = h.count;
     let i = h.descriptor_idx;
     if !lengths_ok(w, n) {
-        return Done::Refused(DmaBufError::BadState);
+        return Err(DmaBufError::BadState);
     }
     if !nexts_ok(w, n) {
-        return Done::Refused(DmaBufError::BadState);
+        return Err(DmaBufError::BadState);
     }
     if n <= i {
-        return Done::Refused(DmaBufError::BadState);
+        return Err(DmaBufError::BadState);
     }
     if !offset_ok(w, dir, i, h.descriptor_offset) {
-        return Done::Refused(DmaBufError::BadState);
+        return Err(DmaBufError::BadState);
     }
-    Done::Ready
+    Ok(())
 }
 
 // ---- new
@@ -230,10 +221,7 @@ fn fresh(n: usize) -> Head
 {
     Head {
         count: n,
-        descriptor_idx: 0,
-        descriptor_offset: 0,
-        tally: 0,
-        pre_filled: 0,
+        ..Head::default()
     }
 }
 
@@ -243,11 +231,9 @@ fn lay_starts(s: &mut [u32], n: usize, len: usize, chunk: usize)
 {
     let step = chunk as u32;
     let mut start: u32 = 0;
-    let mut i: usize = 0;
-    while i < n {
+    for i in 0..n {
         cells::set_buffer(s, i, start);
         start += step;
-        i += 1;
     }
 }
 
@@ -255,7 +241,7 @@ fn lay_size(w: &mut [u16], dir: TransferDirection, i: usize, size: u16, chunk: u
     ensures { w.new ≡ lay_size dir i size chunk w.old }
 {
     cells::set_size(w, i, size);
-    if !walk::receives(dir) {
+    if !dir.is_in() {
         cells::set_length(w, i, chunk);
     }
 }
@@ -274,46 +260,31 @@ fn lay_sizes(w: &mut [u16], dir: TransferDirection, n: usize, len: usize, chunk:
     requires { (n ≤ limit) × (chunk + rest ≤ 4095) × (chunk ≡ len / n) × (rest ≡ len % n) }
     ensures { w.new ≡ up_to (lay_cells dir n len) n w.old }
 {
-    let mut i: usize = 0;
-    while i < n {
+    for i in 0..n {
         let size = size_at(n, i, chunk, rest);
         lay_size(w, dir, i, size, chunk as u16);
-        i += 1;
     }
 }
 
-fn refused_by(parts: Split) -> Done
-    ensures { result ≡ split_done parts }
+// Both `new`s: the buffer's len bytes split over the first n of the lent records, and the head of a ring that begins.
+pub fn new_in(
+    dir: TransferDirection,
+    s: &mut [u32],
+    w: &mut [u16],
+    h: &mut Head,
+    n: usize,
+    len: usize,
+) -> Result<(), DmaBufError>
+    ensures { NewIn dir s.old w.old n len s.new w.new h.new result }
 {
-    match parts {
-        Split::Parts { chunk: _, rest: _ } => Done::Ready,
-        Split::Refused(e) => Done::Refused(e),
-    }
-}
-
-// Both `new`s: the buffer's len bytes split over the first n of the lent records.
-pub fn new_in(dir: TransferDirection, s: &mut [u32], w: &mut [u16], n: usize, len: usize) -> Headed
-    ensures { NewIn dir s.old w.old n len s.new w.new result }
-{
-    let parts = split::split_of(n, len);
-    let Split::Parts { chunk, rest } = parts else {
-        return Headed {
-            head: fresh(n),
-            answer: refused_by(parts),
-        };
-    };
+    *h = fresh(n);
+    let Split { chunk, rest } = split::split_of(n, len)?;
     if !are_records(s, w) {
-        return Headed {
-            head: fresh(n),
-            answer: Done::Refused(DmaBufError::BadState),
-        };
+        return Err(DmaBufError::BadState);
     }
     lay_starts(s, n, len, chunk);
     lay_sizes(w, dir, n, len, chunk, rest);
-    Headed {
-        head: fresh(n),
-        answer: Done::Ready,
-    }
+    Ok(())
 }
 
 // The bytes between an earlier reading of a tally and a later one.

@@ -8,35 +8,36 @@ use crate::refusal::DmaBufError;
 // The fewest records that a ring has.
 pub const LEAST: usize = 4;
 
-#[derive(Clone, Copy)]
-pub enum Split {
-    Parts { chunk: usize, rest: usize },
-    Refused(DmaBufError),
+// The bytes of each record, and those that the last one has beside them.
+#[derive(Clone, Copy, Debug, PartialEq, Eq)]
+pub struct Split {
+    pub chunk: usize,
+    pub rest: usize,
 }
 
 // How len bytes are split over n records: chunk bytes each, and the last one has the rest too.
-pub fn split_of(n: usize, len: usize) -> Split
+pub fn split_of(n: usize, len: usize) -> Result<Split, DmaBufError>
     ensures { result ≡ split_of n len }
 {
     if n < LEAST {
-        return Split::Refused(DmaBufError::InsufficientDescriptors);
+        return Err(DmaBufError::InsufficientDescriptors);
     }
     if LIMIT < n {
-        return Split::Refused(DmaBufError::TooManyDescriptors);
+        return Err(DmaBufError::TooManyDescriptors);
     }
     let chunk = len / n;
     let rest = len % n;
     if MOST < chunk {
-        return Split::Refused(DmaBufError::InsufficientDescriptors);
+        return Err(DmaBufError::InsufficientDescriptors);
     }
     if chunk == 0 {
-        return Split::Refused(DmaBufError::InvalidChunkSize);
+        return Err(DmaBufError::InvalidChunkSize);
     }
     if chunk <= rest {
-        return Split::Refused(DmaBufError::UnevenSplit);
+        return Err(DmaBufError::UnevenSplit);
     }
     if MOST < chunk + rest {
-        return Split::Refused(DmaBufError::InsufficientDescriptors);
+        return Err(DmaBufError::InsufficientDescriptors);
     }
-    Split::Parts { chunk, rest }
+    Ok(Split { chunk, rest })
 }

@@ -1,11 +1,11 @@
 // The CPU-owned run from the cursor: what it counts for, a walk over it that reads, and the records handed to the device.
 ghost use Rattle.std.specs.Prelude.{◌≡◌, ◌-◌, ◌<◌, [], if◌then◌else◌, nat_le};
-ghost use Rattle.descriptors.specs.Record.{limit, span_of, is_in, following};
+ghost use Rattle.descriptors.specs.Record.{limit, span_of, following};
 ghost use Rattle.descriptors.specs.Cells.{record_at, put_next};
 ghost use Rattle.descriptors.specs.Stores.{hand_cells, link_cells, hand_all, link_all};
 ghost use Rattle.descriptors.specs.Walk.{run_bytes, walk_in};
 
-use crate::record::{LIMIT, Next, Owner, TransferDirection};
+use crate::record::{LIMIT, Owner, TransferDirection};
 use crate::{cells, place};
 
 // Where a walk stands: the place, the bytes still to go and the records used up.
@@ -36,15 +36,12 @@ pub fn run_bytes(w: &[u16], dir: TransferDirection, n: usize, i: usize) -> usize
     }
     let mut total: usize = 0;
     let mut at = i;
-    let mut left = n;
-    while 0 < left {
-        let owner = cells::owner_of(w, at);
-        if !cells::is_cpu(owner) {
+    for _passed in 0..n {
+        if !cells::owner_of(w, at).is_cpu() {
             return total;
         }
         total += span(w, dir, at);
         at = place::after(n, at);
-        left -= 1;
     }
     total
 }
@@ -53,65 +50,31 @@ pub fn run_bytes(w: &[u16], dir: TransferDirection, n: usize, i: usize) -> usize
 pub fn walk_over(w: &[u16], dir: TransferDirection, n: usize, i: usize, o: usize, k: usize) -> Moved
     ensures { result ≡ walk_in dir (record_at [] w.now) n (record { at = i; offset = o; rest = k; back = 0 }) }
 {
+    let mut moved = Moved {
+        at: i,
+        offset: o,
+        rest: k,
+        back: 0,
+    };
     if LIMIT < n {
-        return Moved {
-            at: i,
-            offset: o,
-            rest: k,
-            back: 0,
-        };
+        return moved;
     }
-    let mut at = i;
-    let mut offset = o;
-    let mut rest = k;
-    let mut back: usize = 0;
-    let mut left = n;
-    while 0 < left {
-        let owner = cells::owner_of(w, at);
-        if !cells::is_cpu(owner) {
-            return Moved {
-                at,
-                offset,
-                rest,
-                back,
-            };
+    for _passed in 0..n {
+        if !cells::owner_of(w, moved.at).is_cpu() {
+            return moved;
         }
-        let stands = less(span(w, dir, at), offset);
-        if rest < stands {
-            return Moved {
-                at,
-                offset: offset + rest,
-                rest: 0,
-                back,
-            };
+        let stands = span(w, dir, moved.at).saturating_sub(moved.offset);
+        if moved.rest < stands {
+            moved.offset += moved.rest;
+            moved.rest = 0;
+            return moved;
         }
-        at = place::after(n, at);
-        offset = 0;
-        rest -= stands;
-        back += 1;
-        left -= 1;
+        moved.at = place::after(n, moved.at);
+        moved.offset = 0;
+        moved.rest -= stands;
+        moved.back += 1;
     }
-    Moved {
-        at,
-        offset,
-        rest,
-        back,
-    }
-}
-
-pub fn receives(dir: TransferDirection) -> bool
-    ensures { result ≡ is_in dir }
-{
-    match dir {
-        TransferDirection::In => true,
-        TransferDirection::Out => false,
-    }
-}
-
-fn less(a: usize, b: usize) -> usize
-    ensures { result ≡ a - b }
-{
-    if b < a { a - b } else { 0 }
+    moved
 }
 
 // Record idx goes back to the device, in the Rust's order of stores.
@@ -121,7 +84,7 @@ fn give_back(w: &mut [u16], n: usize, idx: usize)
     cells::set_owner(w, idx, Owner::Dma);
     cells::set_suc_eof(w, idx, false);
     cells::set_length(w, idx, 0);
-    cells::set_next(w, idx, Next::Nothing);
+    cells::set_next(w, idx, None);
     let previous = place::before(n, idx);
     cells::link_to(w, previous, idx);
 }
@@ -134,7 +97,7 @@ fn enqueue(w: &mut [u16], n: usize, d: usize)
     cells::set_owner(w, d, Owner::Dma);
     cells::set_length(w, d, size as u16);
     cells::set_suc_eof(w, d, true);
-    cells::set_next(w, d, Next::Nothing);
+    cells::set_next(w, d, None);
     let previous = place::before(n, d);
     cells::link_to(w, previous, d);
 }
@@ -156,11 +119,9 @@ pub fn hand_over(w: &mut [u16], dir: TransferDirection, n: usize, i: usize, g: u
         return;
     }
     let mut at = i;
-    let mut left = g;
-    while 0 < left {
+    for _handed in 0..g {
         hand_over_one(w, dir, n, at);
         at = place::after(n, at);
-        left -= 1;
     }
 }
 
@@ -170,7 +131,7 @@ fn set_following(w: &mut [u16], n: usize, i: usize)
     ensures { w.new ≡ put_next w.old i (following n i) }
 {
     if i + 1 == n {
-        cells::set_next(w, i, Next::Nothing);
+        cells::set_next(w, i, None);
     } else {
         cells::link_to(w, i, i + 1);
     }
@@ -211,9 +172,7 @@ pub fn link_all(w: &mut [u16], dir: TransferDirection, n: usize)
     if LIMIT < n {
         return;
     }
-    let mut i: usize = 0;
-    while i < n {
+    for i in 0..n {
         link_one(w, dir, n, i);
-        i += 1;
     }
 }

@@ -1,29 +1,23 @@
 -- What a step leaves in lent words and bytes, by the outcome that its rule has. The head stays as it is.
-use Rattle.std.specs.Prelude.{ℕ, ◌≡◌, Bool, List, length}
+use Rattle.std.specs.Prelude.{ℕ, ◌≡◌, Bool, List, length, Ok, Err, Option}
 use Rattle.descriptors.specs.Cells.{cells_now, put_owner, put_eof, put_length}
 use Rattle.descriptors.specs.Ring.{ring_of}
 use Rattle.descriptors.specs.declared.record.Owner.TheVariants.{Cpu}
-use Rattle.descriptors.specs.declared.record.Next.{Next}
-use Rattle.descriptors.specs.declared.refusal.Counted.{Counted}
-use Rattle.descriptors.specs.declared.refusal.Counted.TheVariants as counted
-use Rattle.descriptors.specs.declared.refusal.Done.{Done}
-use Rattle.descriptors.specs.declared.refusal.Done.TheVariants as done
 use Rattle.descriptors.specs.declared.ring.Head.{Head}
 use Rattle.device.specs.Device.{receive_of, receive_into, transmit_of, transmit_over}
 use Rattle.device.specs.declared.receive.Received.{Received}
-use Rattle.device.specs.declared.stand.Stand.{Stand}
-use Rattle.device.specs.declared.stand.Stand.TheVariants as stand
+use Rattle.descriptors.specs.Refusal.{Answer}
 use Rattle.device.specs.declared.transmit.Sent.{Sent}
 
 -- ---- the refusal of a device that is not found on a record
 
-abbrev pub stand_done : Stand → Done
-stand_done (stand.On i) = done.Ready
-stand_done (stand.Refused e) = done.Refused e
+abbrev pub stand_done : Answer ℕ → Answer Unit
+stand_done (Ok i) = Ok tt
+stand_done (Err e) = Err e
 
-abbrev pub stand_counted : Stand → Counted
-stand_counted (stand.On i) = counted.Bytes 0
-stand_counted (stand.Refused e) = counted.Refused e
+abbrev pub stand_counted : Answer ℕ → Answer ℕ
+stand_counted (Ok i) = Ok 0
+stand_counted (Err e) = Err e
 
 -- ---- the receive step
 
@@ -31,7 +25,7 @@ stand_counted (stand.Refused e) = counted.Refused e
 abbrev pub close_cells : ℕ → ℕ → Bool → List ℕ → List ℕ
 close_cells i k eof ws = put_owner (put_eof (put_length ws i k) i eof) i Cpu
 
-pub record ReceivedIn (st ws : List ℕ) (h : Head) (dev : Next) (bytes bs : List ℕ) (eof : Bool) (ws' bytes' : List ℕ) (r : Received) : Type 0 where
+pub record ReceivedIn (st ws : List ℕ) (h : Head) (dev : Option ℕ) (bytes bs : List ℕ) (eof : Bool) (ws' bytes' : List ℕ) (r : Received) : Type 0 where
   pub cells : ws' ≡ cells_now st ws (receive_of (ring_of st ws h) dev (length bytes) (length bs) eof).ring.descriptors
   pub buffer : bytes' ≡ receive_into (ring_of st ws h) dev bytes bs
   pub device : r.device ≡ (receive_of (ring_of st ws h) dev (length bytes) (length bs) eof).device
@@ -39,7 +33,7 @@ pub record ReceivedIn (st ws : List ℕ) (h : Head) (dev : Next) (bytes bs : Lis
 
 -- ---- the transmit step
 
-pub record SentIn (st ws : List ℕ) (h : Head) (dev : Next) (bytes out : List ℕ) (ws' out' : List ℕ) (r : Sent) : Type 0 where
+pub record SentIn (st ws : List ℕ) (h : Head) (dev : Option ℕ) (bytes out : List ℕ) (ws' out' : List ℕ) (r : Sent) : Type 0 where
   pub cells : ws' ≡ cells_now st ws (transmit_of (ring_of st ws h) dev (length bytes) (length out)).ring.descriptors
   pub output : out' ≡ transmit_over (ring_of st ws h) dev bytes out
   pub device : r.device ≡ (transmit_of (ring_of st ws h) dev (length bytes) (length out)).device

@@ -5,8 +5,6 @@ ghost use Rattle.device.specs.Device.{receive_of, receive_into, transmit_of, tra
 ghost use Rattle.device.specs.Values.{received_of, sent_of};
 
 use crate::{receive, transmit};
-use descriptors::record::Next;
-use descriptors::refusal::{Counted, Done};
 use rx_stream::view::DmaRxStreamBufView;
 use tx_stream::view::DmaTxStreamBufView;
 
@@ -14,21 +12,21 @@ use tx_stream::view::DmaTxStreamBufView;
 #[derive(Clone, Copy)]
 pub struct ReceivedStep {
     pub ring: DmaRxStreamBufView,
-    pub device: Next,
-    pub answer: Done,
+    pub device: Option<u16>,
+    pub answer: Result<(), DmaBufError>,
 }
 
 // The same of a transmit step.
 #[derive(Clone, Copy)]
 pub struct SentStep {
     pub ring: DmaTxStreamBufView,
-    pub device: Next,
-    pub answer: Counted,
+    pub device: Option<u16>,
+    pub answer: Result<usize, DmaBufError>,
 }
 
 pub fn receive_step(
     ring: DmaRxStreamBufView,
-    device: Next,
+    device: Option<u16>,
     buffer: &mut [u8],
     incoming: &[u8],
     eof: bool,
@@ -55,7 +53,7 @@ pub fn receive_step(
 
 pub fn transmit_step(
     ring: DmaTxStreamBufView,
-    device: Next,
+    device: Option<u16>,
     buffer: &[u8],
     out: &mut [u8],
 ) -> SentStep

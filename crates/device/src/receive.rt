@@ -6,25 +6,24 @@ ghost use Rattle.device.specs.Device.{fits};
 ghost use Rattle.device.specs.Faces.{stand_done, close_cells, ReceivedIn};
 
 use crate::stand;
-use crate::stand::Stand;
 use descriptors::cells;
-use descriptors::record::{Next, Owner, TransferDirection};
-use descriptors::refusal::{DmaBufError, Done};
+use descriptors::record::{Owner, TransferDirection};
+use descriptors::refusal::DmaBufError;
 use descriptors::ring::Head;
 
 // What a step answers, and where the device then stands.
 #[derive(Clone, Copy)]
 pub struct Received {
-    pub device: Next,
-    pub answer: Done,
+    pub device: Option<u16>,
+    pub answer: Result<(), DmaBufError>,
 }
 
-fn refused(found: Stand) -> Done
+fn refused(found: Result<usize, DmaBufError>) -> Result<(), DmaBufError>
     ensures { result ≡ stand_done found }
 {
     match found {
-        Stand::On(_) => Done::Ready,
-        Stand::Refused(e) => Done::Refused(e),
+        Ok(_) => Ok(()),
+        Err(e) => Err(e),
     }
 }
 
@@ -61,7 +60,7 @@ pub fn receive_step_in(
     s: &[u32],
     w: &mut [u16],
     h: Head,
-    device: Next,
+    device: Option<u16>,
     buffer: &mut [u8],
     incoming: &[u8],
     eof: bool,
@@ -69,7 +68,7 @@ pub fn receive_step_in(
     ensures { ReceivedIn s.now w.old h device buffer.old incoming.now eof w.new buffer.new result }
 {
     let found = stand::find(TransferDirection::In, s, w, h, buffer.len(), device);
-    let Stand::On(i) = found else {
+    let Ok(i) = found else {
         return Received {
             device,
             answer: refused(found),
@@ -78,7 +77,7 @@ pub fn receive_step_in(
     if !step_fits(w, i, incoming.len()) {
         return Received {
             device,
-            answer: Done::Refused(DmaBufError::BadStep),
+            answer: Err(DmaBufError::BadStep),
         };
     }
     let next = cells::next_of(w, i);
@@ -87,6 +86,6 @@ pub fn receive_step_in(
     close(w, i, incoming.len() as u16, eof);
     Received {
         device: next,
-        answer: Done::Ready,
+        answer: Ok(()),
     }
 }

@@ -3,8 +3,8 @@ ghost use Rattle.std.specs.Prelude.{◌≡◌};
 ghost use Rattle.descriptors.specs.Ring.{ring_of};
 ghost use Rattle.device.specs.Device.{stand_of, stands_on};
 
-use descriptors::record::{Next, TransferDirection};
-use descriptors::refusal::{DmaBufError, Done};
+use descriptors::record::TransferDirection;
+use descriptors::refusal::DmaBufError;
 use descriptors::ring;
 use descriptors::ring::Head;
 
@@ -15,10 +15,10 @@ pub enum Stand {
 }
 
 // "starting at record 0"
-pub fn start() -> Next
+pub fn start() -> Option<u16>
     ensures { result ≡ Next.At 0 }
 {
-    Next::At(0)
+    Some(0)
 }
 
 // 5 for a ring that is not sound or a record that is not below n, then 7 for a device that stopped.
@@ -28,28 +28,28 @@ pub fn find<'a>(
     w: &'a [u16],
     h: Head,
     len: usize,
-    device: Next,
-) -> Stand
+    device: Option<u16>,
+) -> Result<usize, DmaBufError>
     ensures { result ≡ stand_of dir (ring_of s.now w.now h) len device }
 {
     let answer = ring::judge(dir, s, w, h, len);
-    let Done::Ready = answer else {
-        return Stand::Refused(DmaBufError::BadState);
+    let Ok(()) = answer else {
+        return Err(DmaBufError::BadState);
     };
     on_record(h.count, device)
 }
 
-fn on_record(n: usize, device: Next) -> Stand
+fn on_record(n: usize, device: Option<u16>) -> Result<usize, DmaBufError>
     ensures { result ≡ stands_on n device }
 {
     match device {
-        Next::Nothing => Stand::Refused(DmaBufError::Stopped),
-        Next::At(i) => {
+        None => Err(DmaBufError::Stopped),
+        Some(i) => {
             let at = i as usize;
             if at < n {
-                Stand::On(at)
+                Ok(at)
             } else {
-                Stand::Refused(DmaBufError::BadState)
+                Err(DmaBufError::BadState)
             }
         }
     }

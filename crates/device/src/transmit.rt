@@ -4,25 +4,24 @@ ghost use Rattle.descriptors.specs.Cells.{put_owner};
 ghost use Rattle.device.specs.Faces.{stand_counted, SentIn};
 
 use crate::stand;
-use crate::stand::Stand;
 use descriptors::cells;
-use descriptors::record::{Next, Owner, TransferDirection};
-use descriptors::refusal::{Counted, DmaBufError};
+use descriptors::record::{Owner, TransferDirection};
+use descriptors::refusal::DmaBufError;
 use descriptors::ring::Head;
 
 // What a step answers, the number of bytes that it sent, and where the device then stands.
 #[derive(Clone, Copy)]
 pub struct Sent {
-    pub device: Next,
-    pub answer: Counted,
+    pub device: Option<u16>,
+    pub answer: Result<usize, DmaBufError>,
 }
 
-fn refused(found: Stand) -> Counted
+fn refused(found: Result<usize, DmaBufError>) -> Result<usize, DmaBufError>
     ensures { result ≡ stand_counted found }
 {
     match found {
-        Stand::On(_) => Counted::Bytes(0),
-        Stand::Refused(e) => Counted::Refused(e),
+        Ok(_) => Ok(0),
+        Err(e) => Err(e),
     }
 }
 
@@ -48,14 +47,14 @@ pub fn transmit_step_in(
     s: &[u32],
     w: &mut [u16],
     h: Head,
-    device: Next,
+    device: Option<u16>,
     buffer: &[u8],
     out: &mut [u8],
 ) -> Sent
     ensures { SentIn s.now w.old h device buffer.now out.old w.new out.new result }
 {
     let found = stand::find(TransferDirection::Out, s, w, h, buffer.len(), device);
-    let Stand::On(i) = found else {
+    let Ok(i) = found else {
         return Sent {
             device,
             answer: refused(found),
@@ -65,7 +64,7 @@ pub fn transmit_step_in(
     if out.len() < k {
         return Sent {
             device,
-            answer: Counted::Refused(DmaBufError::BadState),
+            answer: Err(DmaBufError::BadState),
         };
     }
     let next = cells::next_of(w, i);
@@ -74,6 +73,6 @@ pub fn transmit_step_in(
     release(w, i);
     Sent {
         device: next,
-        answer: Counted::Bytes(k),
+        answer: Ok(k),
     }
 }

@@ -15,43 +15,42 @@ use Rattle.descriptors.specs.laws.Splits.{parts-known}
 use Rattle.descriptors.specs.declared.record.DmaDescriptor.{DmaDescriptor}
 use Rattle.descriptors.specs.declared.record.TransferDirection.{TransferDirection}
 use Rattle.descriptors.specs.declared.refusal.DmaBufError.{DmaBufError}
-use Rattle.descriptors.specs.declared.refusal.Done.{Done}
-use Rattle.descriptors.specs.declared.refusal.Done.TheVariants.{Ready, Refused}
 use Rattle.descriptors.specs.declared.split.Split.{Split}
-use Rattle.descriptors.specs.declared.split.Split.TheVariants as split
+use Rattle.descriptors.specs.Refusal.{Answer}
+use Rattle.std.specs.Prelude.{Ok, Err}
 use Rattle.lent.specs.List.{new_over}
 
-abbrev is_ready : Done → Bool
-is_ready Ready = true
-is_ready (Refused e) = false
+abbrev is_ready : Answer Unit → Bool
+is_ready (Ok tt) = true
+is_ready (Err e) = false
 
 -- the records, the first k of them with their parts
 abbrev pub placed : TransferDirection → ℕ → List DmaDescriptor → ℕ → List DmaDescriptor
 placed dir len ds k = each (laid dir (length ds) len) k ds
 
-pub ready-known : (n len : ℕ) → Ready ≡ split_done (split_of n len) → (n ≤ limit) × (len / n + len % n ≤ most)
+pub ready-known : (n len : ℕ) → (Ok tt) ≡ split_done (split_of n len) → (n ≤ limit) × (len / n + len % n ≤ most)
 ready-known n len h = go (split_of n len) refl h
   where
-    go : (s : Split) → split_of n len ≡ s → Ready ≡ split_done s → (n ≤ limit) × (len / n + len % n ≤ most)
-    go (split.Parts c r) e p = let k = parts-known n len c r e in (k.facts.many, k.facts.last)
-    go (split.Refused x) e p = not-both (sym (ap is_ready p))
+    go : (s : Answer Split) → split_of n len ≡ s → (Ok tt) ≡ split_done s → (n ≤ limit) × (len / n + len % n ≤ most)
+    go (Ok x) e p = let k = parts-known n len x.chunk x.rest e in (k.facts.many, k.facts.last)
+    go (Err x) e p = not-both (sym (ap is_ready p))
 
 -- where the split is answered, every record has its part
-pub new-ready : (dir : TransferDirection) (ds : List DmaDescriptor) (len : ℕ) → Ready ≡ split_done (split_of (length ds) len)
-    → new_over dir ds len ≡ record { ring = fresh (placed dir len ds (length ds)) (length ds); answer = Ready }
+pub new-ready : (dir : TransferDirection) (ds : List DmaDescriptor) (len : ℕ) → (Ok tt) ≡ split_done (split_of (length ds) len)
+    → new_over dir ds len ≡ record { ring = fresh (placed dir len ds (length ds)) (length ds); answer = Ok tt }
 unfolding new_of laid_out
 new-ready dir ds len h = go (split_of (length ds) len) refl h
   where
-    go : (s : Split) → split_of (length ds) len ≡ s → Ready ≡ split_done s → new_by dir ds (length ds) len s ≡ record { ring = fresh (placed dir len ds (length ds)) (length ds); answer = Ready }
-    go (split.Parts c r) e p = rw (le-ltb (length ds) (length ds) (omega arith)) refl
-    go (split.Refused x) e p = not-both (sym (ap is_ready p))
+    go : (s : Answer Split) → split_of (length ds) len ≡ s → (Ok tt) ≡ split_done s → new_by dir ds (length ds) len s ≡ record { ring = fresh (placed dir len ds (length ds)) (length ds); answer = Ok tt }
+    go (Ok x) e p = rw (le-ltb (length ds) (length ds) (omega arith)) refl
+    go (Err x) e p = not-both (sym (ap is_ready p))
 
 -- where it is refused, every record is as it was
-pub new-refused : (dir : TransferDirection) (ds : List DmaDescriptor) (len : ℕ) (x : DmaBufError) → Refused x ≡ split_done (split_of (length ds) len)
-    → new_over dir ds len ≡ record { ring = fresh ds (length ds); answer = Refused x }
+pub new-refused : (dir : TransferDirection) (ds : List DmaDescriptor) (len : ℕ) (x : DmaBufError) → Err x ≡ split_done (split_of (length ds) len)
+    → new_over dir ds len ≡ record { ring = fresh ds (length ds); answer = Err x }
 unfolding new_of
 new-refused dir ds len x h = go (split_of (length ds) len) h
   where
-    go : (s : Split) → Refused x ≡ split_done s → new_by dir ds (length ds) len s ≡ record { ring = fresh ds (length ds); answer = Refused x }
-    go (split.Parts c r) p = not-both (ap is_ready p)
-    go (split.Refused y) p = ap (refused (fresh ds (length ds))) (sym p)
+    go : (s : Answer Split) → Err x ≡ split_done s → new_by dir ds (length ds) len s ≡ record { ring = fresh ds (length ds); answer = Err x }
+    go (Ok x) p = not-both (ap is_ready p)
+    go (Err y) p = ap (refused (fresh ds (length ds))) (sym p)

@@ -1,5 +1,5 @@
 -- "the receive cursor lent and changed in place by consume": the by-value consume, with the ring's cursor beside it.
-use Rattle.std.specs.Prelude.{ℕ}
+use Rattle.std.specs.Prelude.{ℕ, Ok, Err}
 use Rattle.descriptors.specs.Ring.{ring_of}
 use Rattle.descriptors.specs.declared.ring.Head.{Head}
 use Rattle.rx_stream.specs.Receive.{consume_of}
@@ -7,8 +7,8 @@ use Rattle.rx_stream.specs.Faces.{consumed_of}
 use Rattle.rx_stream.specs.declared.view.DmaRxStreamBufView.{DmaRxStreamBufView}
 use Rattle.rx_stream.specs.declared.view.Consumed.{Consumed}
 use Rattle.rx_stream.specs.declared.Took.{Took}
-use Rattle.rx_stream.specs.declared.Took.TheVariants as took
 use Rattle.lent.specs.declared.cursor.Cursor.{Cursor}
+use Rattle.descriptors.specs.Refusal.{Answer}
 use Rattle.lent.specs.declared.cursor.Stepped.{Stepped}
 
 -- the ring with its cursor at c
@@ -30,9 +30,9 @@ consume_by v len k = consumed_of v (consume_of (ring_of v.starts v.cells v.head)
 
 -- "A refusal returns its number and changes nothing": the ring v then comes back as it was given, and the cursor c stays. Otherwise the
 -- ring that the consume d leaves comes back, and the cursor is that ring's
-abbrev pub stepped_by : DmaRxStreamBufView → Cursor → Consumed → Took → Stepped
-stepped_by v c d (took.Bytes taken back) = record { cursor = cursor_of d.ring.head; done = d }
-stepped_by v c d (took.Refused e) = record { cursor = c; done = record { ring = v; answer = took.Refused e } }
+abbrev pub stepped_by : DmaRxStreamBufView → Cursor → Consumed → Answer Took → Stepped
+stepped_by v c d (Ok x) = record { cursor = cursor_of d.ring.head; done = d }
+stepped_by v c d (Err e) = record { cursor = c; done = record { ring = v; answer = Err e } }
 
 -- a consume by the ring v from the lent cursor c on: v's own cursor is not read
 unfoldable pub consume_from : DmaRxStreamBufView → Cursor → ℕ → ℕ → Stepped

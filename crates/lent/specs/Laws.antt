@@ -1,11 +1,10 @@
 -- What a consume from a lent cursor leaves, in document 01's words.
-use Rattle.std.specs.Prelude.{ℕ, ◌≡◌, refl, Bool, true, false}
+use Rattle.std.specs.Prelude.{ℕ, ◌≡◌, refl, Bool, true, false, Err}
 use Rattle.descriptors.specs.Ring.{ring_of, sound}
 use Rattle.descriptors.specs.laws.Words.{cells_same}
 use Rattle.descriptors.specs.declared.record.TransferDirection.TheVariants.{In}
 use Rattle.descriptors.specs.declared.refusal.DmaBufError.TheVariants.{BadState}
 use Rattle.rx_stream.specs.Receive.{consume_of}
-use Rattle.rx_stream.specs.declared.Took.TheVariants as took
 use Rattle.rx_stream.specs.declared.view.DmaRxStreamBufView.{DmaRxStreamBufView}
 use Rattle.lent.specs.Cursor.{standing_at, cursor_of, consume_by, consume_from}
 use Rattle.lent.specs.declared.cursor.Cursor.{Cursor}
@@ -16,7 +15,7 @@ accepts v c len = sound In (ring_of v.starts v.cells (standing_at v c).head) len
 
 -- refused, it changes nothing: the ring is as given, and the cursor as lent
 pub refused-same : (v : DmaRxStreamBufView) (c : Cursor) (len k : ℕ) → accepts v c len ≡ false
-    → consume_from v c len k ≡ record { cursor = c; done = record { ring = v; answer = took.Refused BadState } }
+    → consume_from v c len k ≡ record { cursor = c; done = record { ring = v; answer = Err BadState } }
 unfolding consume_of consume_from
 refused-same v c len k e = rw e refl
 

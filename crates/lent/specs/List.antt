@@ -1,15 +1,14 @@
 -- "over a lent list of plain descriptor records": `new` where the number of records is the list's length.
-use Rattle.std.specs.Prelude.{ℕ, cond, List, ◌++◌, ltb, length, take, drop}
+use Rattle.std.specs.Prelude.{ℕ, cond, List, ◌++◌, ltb, length, take, drop, Err}
 use Rattle.descriptors.specs.Ring.{Outcome, new_of}
 use Rattle.descriptors.specs.declared.record.DmaDescriptor.{DmaDescriptor}
 use Rattle.descriptors.specs.declared.record.TransferDirection.{TransferDirection}
 use Rattle.descriptors.specs.declared.refusal.DmaBufError.TheVariants.{TooManyDescriptors}
-use Rattle.descriptors.specs.declared.refusal.Done.{Done}
-use Rattle.descriptors.specs.declared.refusal.Done.TheVariants.{Refused}
 use Rattle.lent.specs.declared.list.Laid.{Laid}
+use Rattle.descriptors.specs.Refusal.{Answer}
 use Rattle.lent.specs.declared.list.Records.{Records}
 
-abbrev pub new_over : TransferDirection → List DmaDescriptor → ℕ → Outcome Done
+abbrev pub new_over : TransferDirection → List DmaDescriptor → ℕ → Outcome (Answer Unit)
 new_over dir ds len = new_of dir ds (length ds) len
 
 abbrev pub room : ℕ
@@ -21,4 +20,4 @@ new_first dir ds n len =
     record { list = (new_over dir (take n ds) len).ring.descriptors ++ drop n ds; answer = (new_over dir (take n ds) len).answer }
 
 abbrev pub new_with : TransferDirection → Records → ℕ → ℕ → Laid
-new_with dir ds n len = cond (ltb room n) record { list = ds.list; answer = Refused TooManyDescriptors } (new_first dir ds.list n len)
+new_with dir ds n len = cond (ltb room n) record { list = ds.list; answer = Err TooManyDescriptors } (new_first dir ds.list n len)

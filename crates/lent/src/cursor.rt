@@ -42,7 +42,7 @@ fn consume_from(i: usize, o: usize, ring: DmaRxStreamBufView, len: usize, k: usi
     let done = standing.consume(len, k);
     let answer = done.answer;
     match answer {
-        Took::Bytes { taken: _, back: _ } => {
+        Ok(Took { taken: _, back: _ }) => {
             let left = done.ring;
             let now = left.head;
             let cursor = Cursor {
@@ -51,14 +51,14 @@ fn consume_from(i: usize, o: usize, ring: DmaRxStreamBufView, len: usize, k: usi
             };
             Stepped { cursor, done }
         }
-        Took::Refused(e) => {
+        Err(e) => {
             let cursor = Cursor {
                 record: i,
                 offset: o,
             };
             let done = Consumed {
                 ring,
-                answer: Took::Refused(e),
+                answer: Err(e),
             };
             Stepped { cursor, done }
         }

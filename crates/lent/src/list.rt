@@ -6,18 +6,18 @@ ghost use Rattle.descriptors.specs.Ring.{split_done};
 ghost use Rattle.lent.specs.List.{new_over, new_first, new_with, room};
 
 use descriptors::record::{DmaDescriptor, LIMIT, TransferDirection};
-use descriptors::refusal::{DmaBufError, Done};
+use descriptors::refusal::DmaBufError;
 use descriptors::split;
 use descriptors::split::Split;
 
 // Whether `new` takes len bytes over n records, or why not.
-fn judge_new(n: usize, len: usize) -> Done
+fn judge_new(n: usize, len: usize) -> Result<(), DmaBufError>
     ensures { result ≡ split_done (split_of n len) }
 {
     let parts = split::split_of(n, len);
     match parts {
-        Split::Parts { chunk: _, rest: _ } => Done::Ready,
-        Split::Refused(e) => Done::Refused(e),
+        Ok(Split { chunk: _, rest: _ }) => Ok(()),
+        Err(e) => Err(e),
     }
 }
 
@@ -67,12 +67,12 @@ fn split_record(
 }
 
 // Each record of the list gets its part of the buffer's len bytes, or none is written and the refusal is answered.
-pub fn new_over(dir: TransferDirection, ds: &mut [DmaDescriptor], len: usize) -> Done
+pub fn new_over(dir: TransferDirection, ds: &mut [DmaDescriptor], len: usize) -> Result<(), DmaBufError>
     ensures { (result ≡ (new_over dir ds.old len).answer) × (ds.new ≡ (new_over dir ds.old len).ring.descriptors) }
 {
     let n = ds.len();
     let answer = judge_new(n, len);
-    let Done::Ready = answer else {
+    let Ok(()) = answer else {
         return answer;
     };
     let mut i: usize = 0;
@@ -96,7 +96,7 @@ pub struct Records {
 #[derive(Drop)]
 pub struct Laid {
     pub list: [DmaDescriptor; ROOM],
-    pub answer: Done,
+    pub answer: Result<(), DmaBufError>,
 }
 
 // `new` over the first n of some records by value: they are lent for the call.
@@ -117,7 +117,7 @@ pub fn new_with(dir: TransferDirection, ds: Records, n: usize, len: usize) -> La
         let list = ds.list;
         return Laid {
             list,
-            answer: Done::Refused(DmaBufError::TooManyDescriptors),
+            answer: Err(DmaBufError::TooManyDescriptors),
         };
     }
     new_first(dir, ds, n, len)

@@ -99,10 +99,10 @@ fn same_consumed(a: Consumed, b: Consumed) -> bool {
 fn wanted(value: Consumed, given: DmaRxStreamBufView) -> Consumed {
     let answer = value.answer;
     match answer {
-        Took::Bytes { taken: _, back: _ } => value,
-        Took::Refused(e) => Consumed {
+        Ok(Took { taken: _, back: _ }) => value,
+        Err(e) => Consumed {
             ring: given,
-            answer: Took::Refused(e),
+            answer: Err(e),
         },
     }
 }

@@ -2,7 +2,7 @@
 use crate::same;
 use descriptors::cells;
 use descriptors::cells::CELLS;
-use descriptors::record::{DmaDescriptor, LIMIT, Next, Owner, TransferDirection};
+use descriptors::record::{DmaDescriptor, LIMIT, Owner, TransferDirection};
 use lent::list::{ROOM, Records};
 use rx_stream::buf::DmaRxStreamBuf;
 use std::io;
@@ -27,9 +27,9 @@ fn lent_record(i: usize) -> DmaDescriptor {
     if k % 3 == 0 {
         owner = Owner::Dma;
     }
-    let mut next = Next::Nothing;
+    let mut next = None;
     if k % 5 != 0 {
-        next = Next::At(k);
+        next = Some(k);
     }
     DmaDescriptor {
         buffer: 70000,

@@ -1,6 +1,5 @@
 // Whether two are the same.
 use descriptors::refusal;
-use descriptors::refusal::Done;
 use descriptors::ring::Head;
 use rx_stream::Took;
 
@@ -49,10 +48,10 @@ pub fn heads(a: Head, b: Head) -> bool {
 }
 
 // A refusal's number, or 0.
-pub fn number(answer: Done) -> u8 {
+pub fn number(answer: Result<(), DmaBufError>) -> u8 {
     match answer {
-        Done::Ready => 0,
-        Done::Refused(e) => refusal::number(e),
+        Ok(()) => 0,
+        Err(e) => u8::from(e),
     }
 }
 
@@ -64,15 +63,15 @@ pub struct Counts {
     pub back: usize,
 }
 
-pub fn numbers(answer: Took) -> Counts {
+pub fn numbers(answer: Result<Took, DmaBufError>) -> Counts {
     match answer {
-        Took::Bytes { taken, back } => Counts {
+        Ok(Took { taken, back }) => Counts {
             refused: 0,
             taken,
             back,
         },
-        Took::Refused(e) => Counts {
-            refused: refusal::number(e),
+        Err(e) => Counts {
+            refused: u8::from(e),
             taken: 0,
             back: 0,
         },

@@ -1,12 +1,12 @@
 -- Module 6, "Head and tail": how a range is cut.
-use Rattle.std.specs.Prelude.{ℕ, ◌+◌, ◌-◌, ◌*◌, ◌%◌, ◌≤◌, cond, ◌&&◌, leb, ltb}
+use Rattle.std.specs.Prelude.{ℕ, ◌+◌, ◌-◌, ◌*◌, ◌%◌, ◌≤◌, cond, ◌&&◌, leb, ltb, Ok, Err}
 use Rattle.descriptors.specs.Record.{top}
 use Rattle.descriptors.specs.declared.refusal.DmaBufError.TheVariants.{UnsupportedMemoryRegion}
 use Rattle.psram.specs.declared.chip.Chip.{Chip}
 use Rattle.psram.specs.declared.chip.Chip.TheVariants.{Ordinary, S2}
 use Rattle.psram.specs.declared.plan.Plan.{Plan}
+use Rattle.descriptors.specs.Refusal.{Answer}
 use Rattle.psram.specs.declared.plan.Cut.{Cut}
-use Rattle.psram.specs.declared.plan.Cut.TheVariants.{Parts, Refused}
 
 -- "Line 16 (ours), pieces up to 4080."
 abbrev pub line : ℕ
@@ -58,7 +58,7 @@ abbrev pub plan_for : Chip → ℕ → ℕ → Plan
 plan_for chip address len = plan_of (least_of chip) (bounce_of chip) address len
 
 -- "9 for a range past 2^32"
-unfoldable pub cut_of : Chip → ℕ → ℕ → Cut
+unfoldable pub cut_of : Chip → ℕ → ℕ → Answer Cut
 cut_of chip address len =
-    cond (ltb top (address + len)) (Refused UnsupportedMemoryRegion)
-    (Parts (plan_for chip address len).head (plan_for chip address len).middle (plan_for chip address len).tail)
+    cond (ltb top (address + len)) (Err UnsupportedMemoryRegion)
+    (Ok (record { head = (plan_for chip address len).head; middle = (plan_for chip address len).middle; tail = (plan_for chip address len).tail }))

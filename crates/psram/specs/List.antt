@@ -1,11 +1,8 @@
 -- The list of records that the pieces of a range are given to.
-use Rattle.std.specs.Prelude.{ℕ, zero, suc, ◌+◌, min, ◌≡◌, not, List, eqb, length}
+use Rattle.std.specs.Prelude.{ℕ, zero, suc, ◌+◌, min, ◌≡◌, not, List, eqb, length, Ok, Err, Some}
 use Rattle.descriptors.specs.Record.{update, up_to, with_buffer, with_size, with_next}
 use Rattle.descriptors.specs.Cells.{records_of, starts_now, cells_now, put_start, put_size, put_next}
 use Rattle.descriptors.specs.declared.record.DmaDescriptor.{DmaDescriptor}
-use Rattle.descriptors.specs.declared.record.Next.TheVariants.{At}
-use Rattle.descriptors.specs.declared.refusal.Done.{Done}
-use Rattle.descriptors.specs.declared.refusal.Done.TheVariants as done
 use Rattle.psram.specs.Cut.{plan_for}
 use Rattle.psram.specs.Piece.{pieces_of, piece_of, start_in, size_in, ready_of}
 use Rattle.psram.specs.declared.chip.Chip.{Chip}
@@ -13,15 +10,15 @@ use Rattle.psram.specs.declared.plan.Plan.{Plan}
 use Rattle.psram.specs.declared.held.Held.{Held}
 use Rattle.psram.specs.declared.held.DescriptorSet.{DescriptorSet}
 use Rattle.psram.specs.declared.held.Built.{Built}
+use Rattle.descriptors.specs.Refusal.{Answer}
 use Rattle.psram.specs.declared.held.Listed.{Listed}
-use Rattle.psram.specs.declared.held.Listed.TheVariants.{Bytes, Refused}
 
 -- "Each record gets size and start (within the store or range that holds it), and the one before it its link"
 abbrev pub link_before : ℕ → List DmaDescriptor → List DmaDescriptor
 link_before zero ds = ds
-link_before (suc j) ds = update ds j (with_next (At (suc j)))
+link_before (suc j) ds = update ds j (with_next (Some (suc j)))
 
-abbrev pub laid : Held → DmaDescriptor → DmaDescriptor
+abbrev pub laid : Answer Held → DmaDescriptor → DmaDescriptor
 laid h d = with_buffer (start_in h) (with_size (size_in h) d)
 
 unfoldable pub listed_at : Plan → ℕ → List DmaDescriptor → List DmaDescriptor
@@ -39,19 +36,19 @@ covered_of p (suc k) = covered_of p k + size_in (piece_of p k)
 -- what the call answers, and the records that it leaves: "The last record's next stays as lent."
 pub record Listing : Type 0 where
   pub descriptors : List DmaDescriptor
-  pub answer : Listed
+  pub answer : Answer Listed
 
-abbrev pub listing_by : Done → List DmaDescriptor → ℕ → Plan → Listing
-listing_by done.Ready ds n p =
-    record { descriptors = up_to (listed_at p) (used_of n p) ds; answer = Bytes (covered_of p (used_of n p)) (used_of n p) }
-listing_by (done.Refused e) ds n p = record { descriptors = ds; answer = Refused e }
+abbrev pub listing_by : Answer Unit → List DmaDescriptor → ℕ → Plan → Listing
+listing_by (Ok tt) ds n p =
+    record { descriptors = up_to (listed_at p) (used_of n p) ds; answer = Ok (record { covered = covered_of p (used_of n p); used = used_of n p }) }
+listing_by (Err e) ds n p = record { descriptors = ds; answer = Err e }
 
 unfoldable pub list_of : List DmaDescriptor → ℕ → ℕ → ℕ → Chip → ℕ → Listing
 list_of ds n address len chip store =
     listing_by (ready_of (not (eqb (length ds) 0)) n address len chip store) ds n (plan_for chip address len)
 
 -- what the call answers, and the words that it leaves of the starts st and the cells ws
-abbrev pub Leaves : List ℕ → List ℕ → List ℕ → List ℕ → Listed → Listing → Type 0
+abbrev pub Leaves : List ℕ → List ℕ → List ℕ → List ℕ → Answer Listed → Listing → Type 0
 Leaves st ws st' ws' r l = (r ≡ l.answer) × ((st' ≡ starts_now st ws l.descriptors) × (ws' ≡ cells_now st ws l.descriptors))
 
 -- the same over records by value
@@ -72,7 +69,7 @@ built_of d address len chip store =
 
 abbrev pub link_cells : ℕ → List ℕ → List ℕ
 link_cells zero ws = ws
-link_cells (suc j) ws = put_next ws j (At (suc j))
+link_cells (suc j) ws = put_next ws j (Some (suc j))
 
 unfoldable pub list_start : Plan → ℕ → List ℕ → List ℕ
 list_start p i st = put_start st i (start_in (piece_of p i))

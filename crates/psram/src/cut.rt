@@ -62,16 +62,16 @@ pub(crate) fn plan(address: u32, length: usize, chip: Chip) -> Plan
     planned(address, length, least(chip), bounce(chip))
 }
 
-pub fn cut(address: u32, length: u32, chip: Chip) -> Cut
+pub fn cut(address: u32, length: u32, chip: Chip) -> Result<Cut, DmaBufError>
     ensures { result ≡ cut_of chip address length }
 {
     if is_past(address, length as usize) {
-        return Cut::Refused(DmaBufError::UnsupportedMemoryRegion);
+        return Err(DmaBufError::UnsupportedMemoryRegion);
     }
     let p = plan(address, length as usize, chip);
-    Cut::Parts {
+    Ok(Cut {
         head: p.head,
         middle: p.middle,
         tail: p.tail,
-    }
+    })
 }

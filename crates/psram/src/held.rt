@@ -29,5 +29,5 @@ pub struct DescriptorSet {
 #[derive(Clone, Copy)]
 pub struct Built {
     pub descriptors: DescriptorSet,
-    pub answer: Listed,
+    pub answer: Result<Listed, DmaBufError>,
 }

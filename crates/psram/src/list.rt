@@ -11,26 +11,25 @@ use crate::cut::plan;
 use crate::held::{Built, DescriptorSet, Held, Listed};
 use crate::piece::{piece_at, pieces, ready};
 use crate::plan::Plan;
-use descriptors::refusal::Done;
 use descriptors::{cells, ring};
 
-fn start_in(h: Held) -> usize
+fn start_in(h: Result<Held, DmaBufError>) -> usize
     ensures { result ≡ start_in h }
 {
     match h {
-        Held::InStore { start, size: _ } => start,
-        Held::InRange { start, size: _ } => start,
-        Held::Refused(_) => 0,
+        Ok(Held::InStore { start, size: _ }) => start,
+        Ok(Held::InRange { start, size: _ }) => start,
+        Err(_) => 0,
     }
 }
 
-fn size_in(h: Held) -> usize
+fn size_in(h: Result<Held, DmaBufError>) -> usize
     ensures { result ≡ size_in h }
 {
     match h {
-        Held::InStore { start: _, size } => size,
-        Held::InRange { start: _, size } => size,
-        Held::Refused(_) => 0,
+        Ok(Held::InStore { start: _, size }) => size,
+        Ok(Held::InRange { start: _, size }) => size,
+        Err(_) => 0,
     }
 }
 
@@ -85,17 +84,17 @@ pub fn build_descriptor_list_for_psram(
     length: u32,
     chip: Chip,
     store: usize,
-) -> Listed
+) -> Result<Listed, DmaBufError>
     ensures { Leaves s.old w.old s.new w.new result (list_of (records_of s.old w.old) n address length chip store) }
 {
     let held = ring::are_records(s, w);
     match ready(held, n, address, length as usize, chip, store) {
-        Done::Refused(e) => Listed::Refused(e),
-        Done::Ready => {
+        Err(e) => Err(e),
+        Ok(()) => {
             let p = plan(address, length as usize, chip);
             let used = fewer(n, pieces(p));
             let covered = list_pieces(s, w, p, used);
-            Listed::Bytes { covered, used }
+            Ok(Listed { covered, used })
         }
     }
 }

@@ -8,7 +8,7 @@ use crate::cut::{is_past, plan};
 use crate::held::Held;
 use crate::plan::Plan;
 use descriptors::record::LIMIT;
-use descriptors::refusal::{DmaBufError, Done};
+use descriptors::refusal::DmaBufError;
 
 // An outer part is one piece, or none where it is empty.
 fn some(size: usize) -> usize
@@ -32,7 +32,7 @@ pub(crate) fn pieces(p: Plan) -> usize
 }
 
 // Direct piece j.
-fn direct(p: Plan, j: usize) -> Held
+fn direct(p: Plan, j: usize) -> Result<Held, DmaBufError>
     requires { (bytes_of p ≤ top) × (j < directs p.middle) }
     ensures { result ≡ direct_of p j }
 {
@@ -40,21 +40,21 @@ fn direct(p: Plan, j: usize) -> Held
     let start = p.head + from;
     let left = p.middle - from;
     if left < PIECE {
-        return Held::InRange { start, size: left };
+        return Ok(Held::InRange { start, size: left });
     }
-    Held::InRange { start, size: PIECE }
+    Ok(Held::InRange { start, size: PIECE })
 }
 
-pub(crate) fn piece_at(p: Plan, i: usize) -> Held
+pub(crate) fn piece_at(p: Plan, i: usize) -> Result<Held, DmaBufError>
     requires { bytes_of p ≤ top }
     ensures { result ≡ piece_of p i }
 {
     let ahead = some(p.head);
     if i < ahead {
-        return Held::InStore {
+        return Ok(Held::InStore {
             start: 0,
             size: p.head,
-        };
+        });
     }
     let j = i - ahead;
     let between = directs(p.middle);
@@ -62,12 +62,12 @@ pub(crate) fn piece_at(p: Plan, i: usize) -> Held
         return direct(p, j);
     }
     if j - between < some(p.tail) {
-        return Held::InStore {
+        return Ok(Held::InStore {
             start: p.bounce,
             size: p.tail,
-        };
+        });
     }
-    Held::Refused(DmaBufError::TooMuch)
+    Err(DmaBufError::TooMuch)
 }
 
 // What a list of pieces is refused for; `held` says whether the lent words hold records.
@@ -78,33 +78,33 @@ pub(crate) fn ready(
     length: usize,
     chip: Chip,
     store: usize,
-) -> Done
+) -> Result<(), DmaBufError>
     ensures { result ≡ ready_of held n address length chip store }
 {
     if LIMIT < n {
-        return Done::Refused(DmaBufError::TooManyDescriptors);
+        return Err(DmaBufError::TooManyDescriptors);
     }
     if !held {
-        return Done::Refused(DmaBufError::BadState);
+        return Err(DmaBufError::BadState);
     }
     if store < 2 * bounce(chip) {
-        return Done::Refused(DmaBufError::BadState);
+        return Err(DmaBufError::BadState);
     }
     if is_past(address, length) {
-        return Done::Refused(DmaBufError::UnsupportedMemoryRegion);
+        return Err(DmaBufError::UnsupportedMemoryRegion);
     }
-    Done::Ready
+    Ok(())
 }
 
 // Where piece i of a range lies, as numbers.
-pub fn numbered(n: usize, address: u32, length: usize, chip: Chip, store: usize, i: usize) -> Held
+pub fn numbered(n: usize, address: u32, length: usize, chip: Chip, store: usize, i: usize) -> Result<Held, DmaBufError>
     ensures { result ≡ numbered_of n address length chip store i }
 {
     match ready(true, n, address, length, chip, store) {
-        Done::Refused(e) => Held::Refused(e),
-        Done::Ready => {
+        Err(e) => Err(e),
+        Ok(()) => {
             if n <= i {
-                return Held::Refused(DmaBufError::TooMuch);
+                return Err(DmaBufError::TooMuch);
             }
             piece_at(plan(address, length, chip), i)
         }
@@ -124,15 +124,15 @@ pub fn piece<'a>(
     ensures ref_ptr_value { result.ref_ptr ≡ place_of store.entry range.entry (numbered_of n address (length range.now) chip (length store.now) i) }
 {
     match numbered(n, address, range.len(), chip, store.len(), i) {
-        Held::InStore { start, size } => {
+        Ok(Held::InStore { start, size }) => {
             let end = start + size;
             &store[start..end]
         }
-        Held::InRange { start, size } => {
+        Ok(Held::InRange { start, size }) => {
             let end = start + size;
             &range[start..end]
         }
-        Held::Refused(_) => &store[0..0],
+        Err(_) => &store[0..0],
     }
 }
 
@@ -143,12 +143,12 @@ pub fn piece_refusal<'a>(
     address: u32,
     chip: Chip,
     i: usize,
-) -> Done
+) -> Result<(), DmaBufError>
     ensures { result ≡ piece_refusal_of (numbered_of n address (length range.now) chip (length store.now) i) }
 {
     match numbered(n, address, range.len(), chip, store.len(), i) {
-        Held::InStore { start: _, size: _ } => Done::Ready,
-        Held::InRange { start: _, size: _ } => Done::Ready,
-        Held::Refused(e) => Done::Refused(e),
+        Ok(Held::InStore { start: _, size: _ }) => Ok(()),
+        Ok(Held::InRange { start: _, size: _ }) => Ok(()),
+        Err(e) => Err(e),
     }
 }

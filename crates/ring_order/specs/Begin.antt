@@ -1,52 +1,49 @@
 -- What `new` leaves, and the links of `prepare`.
-use Rattle.std.specs.Prelude.{◌≡◌, refl, Bool, true, false, cond, List, ℕ, zero, suc, ◌+◌, ◌≤◌, ◌<◌, ltb, length}
+use Rattle.std.specs.Prelude.{◌≡◌, refl, Bool, true, false, cond, List, ℕ, zero, suc, ◌+◌, ◌≤◌, ◌<◌, ltb, length, Ok, Err, Some, None}
 use Rattle.std.proofs.Common.{sym, ◌∙◌, ap, subst, suc-le-suc, arith, ltb-false, eq-eqb, ne_eqb, lt-ltb}
 use Rattle.std.proofs.Math.Decide.{ℕ_discrete}
 use Rattle.descriptors.specs.Record.{record_in, linked, following}
 use Rattle.descriptors.specs.Split.{split_of, is_parts, accepts, start_of, size_of, laid, laid_out}
 use Rattle.descriptors.specs.Ring.{Ring, Outcome, refused, fresh, new_by, new_of, linked_all, below, split_sound}
 use Rattle.descriptors.specs.declared.record.Owner.TheVariants.{Dma}
-use Rattle.descriptors.specs.declared.record.Next.TheVariants.{Nothing, At}
 use Rattle.descriptors.specs.declared.record.DmaDescriptor.{DmaDescriptor}
 use Rattle.descriptors.specs.declared.record.TransferDirection.{TransferDirection}
 use Rattle.descriptors.specs.declared.record.TransferDirection.TheVariants.{In, Out}
 use Rattle.descriptors.specs.declared.refusal.DmaBufError.{DmaBufError}
 use Rattle.descriptors.specs.declared.refusal.DmaBufError.TheVariants.{BadState}
-use Rattle.descriptors.specs.declared.refusal.Done.{Done}
-use Rattle.descriptors.specs.declared.refusal.Done.TheVariants as done
 use Rattle.descriptors.specs.declared.split.Split.{Split}
-use Rattle.descriptors.specs.declared.split.Split.TheVariants as split
 use Rattle.descriptors.specs.laws.Updates.{each-length, each_at}
 use Rattle.ring_order.specs.Places.{place, place-from-zero}
 use Rattle.ring_order.specs.Lists.{tab, tab-cong}
 use Rattle.ring_order.specs.Shape.{Laid, of-laid}
 use Rattle.ring_order.specs.View.{Cell, cell_in, view, view-tab}
+use Rattle.descriptors.specs.Refusal.{Answer}
 use Rattle.ring_order.specs.Queue.{Linked}
 
 -- ---- `new`
 
-pub refused-not : (e : DmaBufError) → done.Refused e ≡ done.Ready → ⊥
+pub refused-not : (e : DmaBufError) → Err e ≡ (Ok tt) → ⊥
 refused-not e q = let z : ◌≡◌ {A = ℕ} 0 1 = cc in omega arith
 
 module _ (dir : TransferDirection) (ds : List DmaDescriptor) (n len : ℕ) where
-  abbrev ready : Outcome Done
-  ready = record { ring = fresh (laid_out dir n len ds) n; answer = done.Ready }
+  abbrev ready : Outcome (Answer Unit)
+  ready = record { ring = fresh (laid_out dir n len ds) n; answer = Ok tt }
 
-  pub record New (o : Outcome Done) (accepted : Bool) : Type 0 where
+  pub record New (o : Outcome (Answer Unit)) (accepted : Bool) : Type 0 where
     pub ring : o.ring ≡ fresh (laid_out dir n len ds) n
     pub parts : accepted ≡ true
     pub enough : n ≤ length ds
 
-  new-some : (t : Bool) → ltb (length ds) n ≡ t → (cond t (refused (fresh ds n) (done.Refused BadState)) ready).answer ≡ done.Ready → New (cond t (refused (fresh ds n) (done.Refused BadState)) ready) true
+  new-some : (t : Bool) → ltb (length ds) n ≡ t → (cond t (refused (fresh ds n) (Err BadState)) ready).answer ≡ (Ok tt) → New (cond t (refused (fresh ds n) (Err BadState)) ready) true
   new-some true e h = absurd (refused-not BadState h)
   new-some false e h = record { ring = refl; parts = refl; enough = ltb-false (length ds) n e }
 
-  new_by_lem : (s : Split) → (new_by dir ds n len s).answer ≡ done.Ready → New (new_by dir ds n len s) (is_parts s)
-  new_by_lem (split.Parts chunk rest) h = new-some (ltb (length ds) n) refl h
-  new_by_lem (split.Refused e) h = absurd (refused-not e h)
+  new_by_lem : (s : Answer Split) → (new_by dir ds n len s).answer ≡ (Ok tt) → New (new_by dir ds n len s) (is_parts s)
+  new_by_lem (Ok x) h = new-some (ltb (length ds) n) refl h
+  new_by_lem (Err e) h = absurd (refused-not e h)
 
   -- `new` answered Ready
-  pub new-ready : (new_of dir ds n len).answer ≡ done.Ready → New (new_of dir ds n len) (accepts n len)
+  pub new-ready : (new_of dir ds n len).answer ≡ (Ok tt) → New (new_of dir ds n len) (accepts n len)
   unfolding new_of
   new-ready h = new_by_lem (split_of n len) h
 
@@ -76,19 +73,19 @@ module _ (dir : TransferDirection) (ds : List DmaDescriptor) (n len : ℕ) where
       laid-room Out i d = refl
 
   -- the ring that `new` leaves has its split
-  pub new_split : (new_of dir ds n len).answer ≡ done.Ready → split_sound (new_of dir ds n len).ring len ≡ true
+  pub new_split : (new_of dir ds n len).answer ≡ (Ok tt) → split_sound (new_of dir ds n len).ring len ≡ true
   new_split h =
       let w = new-ready h in
       ap (λ (r : Ring). split_sound r len) w.ring ∙ of-laid (fresh (laid_out dir n len ds) n) len (laid_out_lem w.parts w.enough) (omega arith)
 
 -- ---- the links of `prepare`
 
-next-inner : (n i : ℕ) → suc i < n → following n i ≡ At (suc i)
+next-inner : (n i : ℕ) → suc i < n → following n i ≡ Some (suc i)
 next-inner n i h =
-    ap (λ (t : Bool). cond t Nothing (At (i + 1))) (ne_eqb (i + 1) n (λ e. omega arith)) ∙ ap At (let z : i + 1 ≡ suc i = omega arith in z)
+    ap (λ (t : Bool). cond t None (Some (i + 1))) (ne_eqb (i + 1) n (λ e. omega arith)) ∙ ap Some (let z : i + 1 ≡ suc i = omega arith in z)
 
-next_last : (n i : ℕ) → suc i ≡ n → following n i ≡ Nothing
-next_last n i h = ap (λ (t : Bool). cond t Nothing (At (i + 1))) (eq-eqb (i + 1) n (omega arith))
+next_last : (n i : ℕ) → suc i ≡ n → following n i ≡ None
+next_last n i h = ap (λ (t : Bool). cond t None (Some (i + 1))) (eq-eqb (i + 1) n (omega arith))
 
 -- a link that `prepare` sets is none or below n
 pub following-below : (n i : ℕ) → i < n → below n (following n i) ≡ true
@@ -116,8 +113,8 @@ linked-dma In n i d = refl
 linked-dma Out n i d = refl
 
 -- cells that are the DMA's and lead on in turn are a queue
-pub linked-tab : (m : ℕ) (f : ℕ → Cell) → ((d : ℕ) → d < m → (f d).desc.owner ≡ Dma) → ((d : ℕ) → suc d < m → (f d).desc.next ≡ At (f (suc d)).idx)
-    → ((d : ℕ) → suc d ≡ m → (f d).desc.next ≡ Nothing) → Linked (tab m f)
+pub linked-tab : (m : ℕ) (f : ℕ → Cell) → ((d : ℕ) → d < m → (f d).desc.owner ≡ Dma) → ((d : ℕ) → suc d < m → (f d).desc.next ≡ Some (f (suc d)).idx)
+    → ((d : ℕ) → suc d ≡ m → (f d).desc.next ≡ None) → Linked (tab m f)
 linked-tab zero f o s l = tt
 linked-tab (suc zero) f o s l = (o 0 (omega arith), l 0 refl, tt)
 linked-tab (suc (suc m)) f o s l = (

@@ -1,6 +1,6 @@
 -- The ring, its device, and the steps that the device has made: the device goes through the queue record by record, in ring order.
 -- Every call and step of either direction is one of two moves of this state.
-use Rattle.std.specs.Prelude.{◌≡◌, refl, true, ◌⊎◌, ◌≢◌, ◌↔◌, List, [], ◌∷◌, ◌++◌, eqb}
+use Rattle.std.specs.Prelude.{◌≡◌, refl, true, ◌⊎◌, ◌≢◌, ◌↔◌, List, [], ◌∷◌, ◌++◌, eqb, Some, None, Option}
 use Rattle.std.proofs.Math.Path.{sym, subst}
 use Rattle.std.proofs.Common.{◌∙◌, ap, inl, inr, append_assoc, append-nil, add-zero, arith, length-append, lt-ltb, eq-eqb}
 use Rattle.std.proofs.lemmas.List.{map-append}
@@ -13,8 +13,6 @@ use Rattle.descriptors.specs.Place.{after, turns}
 use Rattle.descriptors.specs.Ring.{Ring, record_of, with_records, offset_ok, sound}
 use Rattle.descriptors.specs.Walk.{hand_over, begun, planned, moved_to, advanced}
 use Rattle.descriptors.specs.declared.record.Owner.TheVariants.{Cpu, Dma}
-use Rattle.descriptors.specs.declared.record.Next.{Next}
-use Rattle.descriptors.specs.declared.record.Next.TheVariants.{Nothing, At}
 use Rattle.descriptors.specs.declared.record.DmaDescriptor.{DmaDescriptor}
 use Rattle.descriptors.specs.declared.record.TransferDirection.{TransferDirection}
 use Rattle.descriptors.specs.declared.record.TransferDirection.TheVariants.{In, Out}
@@ -29,16 +27,16 @@ use Rattle.ring_order.specs.Give.{Walked, gives}
 use Rattle.ring_order.specs.Skeleton.{Among, turn-place, stopped-not}
 
 -- the device is stopped, or stands at the head of the queue
-abbrev pub Stands : Next → List ℕ → Type 0
-Stands d is = (d ≡ Nothing) ⊎ (d ≡ first is)
+abbrev pub Stands : Option ℕ → List ℕ → Type 0
+Stands d is = (d ≡ None) ⊎ (d ≡ first is)
 
-stands-grow : (d : Next) (is js : List ℕ) → Stands d is → Stands d (is ++ js)
+stands-grow : (d : Option ℕ) (is js : List ℕ) → Stands d is → Stands d (is ++ js)
 stands-grow d is js (inl e) = inl e
 stands-grow d [] js (inr e) = inl e
 stands-grow d (i ∷ is) js (inr e) = inr e
 
 -- after t steps: `run` is the CPU's, `rest` is queued
-pub record Order (dir : TransferDirection) (len : ℕ) (r : Ring) (b : List ℕ) (dev : Next) (t : ℕ) (run rest : List Cell) : Type 0 where
+pub record Order (dir : TransferDirection) (len : ℕ) (r : Ring) (b : List ℕ) (dev : Option ℕ) (t : ℕ) (run rest : List Cell) : Type 0 where
   pub prefilled : r.prefilled ≤ len
   pub parted : Parted dir r.count len r.descriptors b r.idx r.offset run rest
   pub stands : Stands dev (idxs rest)
@@ -69,7 +67,7 @@ module _ (dir : TransferDirection) (n len : ℕ) (ds : List DmaDescriptor) (b : 
           offset-some dir (record_in ds c) o (ap (λ (y : Cell). y.desc.owner) (sym e) ∙ s.cpus.0)
           (omega (arith, exact dir n len ds b c s.stored [] (run ++ rest) x s.seen, ap (λ (y : Cell). span_of dir y.desc) e))
 
-pub order-sound : (dir : TransferDirection) (len : ℕ) (r : Ring) (b : List ℕ) (dev : Next) (t : ℕ) (run rest : List Cell) → Order dir len r b dev t run rest → sound dir r len ≡ true
+pub order-sound : (dir : TransferDirection) (len : ℕ) (r : Ring) (b : List ℕ) (dev : Option ℕ) (t : ℕ) (run rest : List Cell) → Order dir len r b dev t run rest → sound dir r len ≡ true
 order-sound dir len r b dev t run rest o =
     of-sound dir r len record {
       shape = o.parted.stored.shape;
@@ -80,7 +78,7 @@ order-sound dir len r b dev t run rest o =
 
 -- ---- records are handed over
 
-module _ (dir : TransferDirection) (len : ℕ) (r : Ring) (b : List ℕ) (dev : Next) (t : ℕ) (run rest : List Cell) (o : Order dir len r b dev t run rest) where
+module _ (dir : TransferDirection) (len : ℕ) (r : Ring) (b : List ℕ) (dev : Option ℕ) (t : ℕ) (run rest : List Cell) (o : Order dir len r b dev t run rest) where
   pub order-gives : (k : ℕ) → Walked dir r.count len b r.descriptors (begun r k) (planned dir r k) run rest
   order-gives k = gives dir len r b run rest o.parted k
 
@@ -106,13 +104,13 @@ pub record Head (n i t : ℕ) (rest : List Cell) : Type 0 where
   pub number : i ≡ head.idx
   pub turns : i ≡ turn n t
 
-head-of : (d : Next) (i : ℕ) (rest : List Cell) → Stands d (idxs rest) → d ≡ At i → (x : Cell) × (xs : List Cell) × (rest ≡ x ∷ xs) × (i ≡ x.idx)
+head-of : (d : Option ℕ) (i : ℕ) (rest : List Cell) → Stands d (idxs rest) → d ≡ Some i → (x : Cell) × (xs : List Cell) × (rest ≡ x ∷ xs) × (i ≡ x.idx)
 head-of d i rest (inl e) p = absurd (stopped-not d i p e)
 head-of d i [] (inr e) p = absurd (stopped-not d i p e)
 head-of d i (x ∷ xs) (inr e) p = (x, xs, refl, cc)
 
-pub head_at : (dir : TransferDirection) (len : ℕ) (r : Ring) (b : List ℕ) (dev : Next) (t : ℕ) (run rest : List Cell) → Order dir len r b dev t run rest
-    → (i : ℕ) → dev ≡ At i → Head r.count i t rest
+pub head_at : (dir : TransferDirection) (len : ℕ) (r : Ring) (b : List ℕ) (dev : Option ℕ) (t : ℕ) (run rest : List Cell) → Order dir len r b dev t run rest
+    → (i : ℕ) → dev ≡ Some i → Head r.count i t rest
 head_at dir len r b dev t run rest o i d =
     let (x, xs, e, q) = head-of dev i rest o.stands d in
     record {
@@ -123,7 +121,7 @@ head_at dir len r b dev t run rest o i d =
       turns = q ∙ placed_at dir r.count r.descriptors b r.idx o.parted.stored.cursor run xs x (o.parted.seen ∙ ap (λ (l : List Cell). run ++ l) e) ∙ o.turned;
     }
 
-module _ (dir : TransferDirection) (len : ℕ) (r : Ring) (b : List ℕ) (dev : Next) (t : ℕ) (run : List Cell) (x : Cell) (rest : List Cell) (o : Order dir len r b dev t run (x ∷ rest)) where
+module _ (dir : TransferDirection) (len : ℕ) (r : Ring) (b : List ℕ) (dev : Option ℕ) (t : ℕ) (run : List Cell) (x : Cell) (rest : List Cell) (o : Order dir len r b dev t run (x ∷ rest)) where
   pub head-stored : (x.idx < r.count) × (x ≡ cell_in dir r.descriptors b x.idx)
   head-stored = own dir r.count r.descriptors b r.idx o.parted.stored.cursor run rest x o.parted.seen
 
@@ -155,13 +153,13 @@ module _ (dir : TransferDirection) (len : ℕ) (r : Ring) (b : List ℕ) (dev : 
       }
 
 -- no first record: none is queued
-pub first-none : (xs : List Cell) → first (idxs xs) ≡ Nothing → length xs ≡ 0
+pub first-none : (xs : List Cell) → first (idxs xs) ≡ None → length xs ≡ 0
 first-none [] e = refl
-first-none (x ∷ xs) e = absurd (stopped-not (At x.idx) x.idx refl e)
+first-none (x ∷ xs) e = absurd (stopped-not (Some x.idx) x.idx refl e)
 
 -- the device stands on one of the ring's records
-pub stands-below : (dir : TransferDirection) (len : ℕ) (r : Ring) (b : List ℕ) (dev : Next) (t : ℕ) (run rest : List Cell) → Order dir len r b dev t run rest
-    → (i : ℕ) → dev ≡ At i → i < r.count
+pub stands-below : (dir : TransferDirection) (len : ℕ) (r : Ring) (b : List ℕ) (dev : Option ℕ) (t : ℕ) (run rest : List Cell) → Order dir len r b dev t run rest
+    → (i : ℕ) → dev ≡ Some i → i < r.count
 stands-below dir len r b dev t run rest o i d =
     let h = head_at dir len r b dev t run rest o i d in
     subst (λ (j : ℕ). j < r.count) (sym h.number)
@@ -215,7 +213,7 @@ linked-at : (a : List Cell) (x : Cell) (d : List Cell) → Linked (a ++ x ∷ d)
 linked-at [] x d h = h.0
 linked-at (y ∷ a) x d h = linked-at a x d h.2
 
-module _ (dir : TransferDirection) (len : ℕ) (r : Ring) (b : List ℕ) (dev : Next) (t : ℕ) (run rest : List Cell) (o : Order dir len r b dev t run rest) where
+module _ (dir : TransferDirection) (len : ℕ) (r : Ring) (b : List ℕ) (dev : Option ℕ) (t : ℕ) (run rest : List Cell) (o : Order dir len r b dev t run rest) where
   -- a record of the run, by its cell
   pub run-cell : (j : ℕ) → Among j (idxs run)
       → (a : List Cell) × (x : Cell) × (d : List Cell) × (run ≡ a ++ x ∷ d) × (j ≡ x.idx) × (x ≡ cell_in dir r.descriptors b j) × (j ≡ place r.count r.idx (0 + length a))
@@ -272,14 +270,14 @@ module _ (dir : TransferDirection) (len : ℕ) (r : Ring) (b : List ℕ) (dev : 
       go d (inr k) = k
 
 -- NOTHING IS QUEUED EXACTLY WHEN THE CPU OWNS EVERY RECORD
-pub none-queued : (dir : TransferDirection) (len : ℕ) (r : Ring) (b : List ℕ) (dev : Next) (t : ℕ) (run rest : List Cell) → Order dir len r b dev t run rest
-    → (first (idxs rest) ≡ Nothing) ↔ ((j : ℕ) → j < r.count → (record_of r j).owner ≡ Cpu)
+pub none-queued : (dir : TransferDirection) (len : ℕ) (r : Ring) (b : List ℕ) (dev : Option ℕ) (t : ℕ) (run rest : List Cell) → Order dir len r b dev t run rest
+    → (first (idxs rest) ≡ None) ↔ ((j : ℕ) → j < r.count → (record_of r j).owner ≡ Cpu)
 none-queued dir len r b dev t run [] o = (λ e j h. go j (locate dir len r b dev t run [] o j h), λ f. refl)
   where
     go : (j : ℕ) → Among j (idxs run) ⊎ Among j [] → (record_of r j).owner ≡ Cpu
     go j (inl k) = run-cpu dir len r b dev t run [] o j k
     go j (inr k) = absurd k
 none-queued dir len r b dev t run (y ∷ ys) o = (
-  λ e. absurd (stopped-not (At y.idx) y.idx refl e),
+  λ e. absurd (stopped-not (Some y.idx) y.idx refl e),
   λ f. absurd (cpu-not-dma (record_of r y.idx).owner (f y.idx (head-stored dir len r b dev t run y ys o).0) (queue-dma dir len r b dev t run (y ∷ ys) o y.idx (inl refl))),
 )

@@ -1,6 +1,6 @@
 -- The ring from its cursor on: a run of records that the CPU owns, then the queue, which the device goes through. What of a list of
 -- cells does not hang on the links, and what the run and the queue are once the first of the run has been handed over.
-use Rattle.std.specs.Prelude.{◌≡◌, Bool, true, false, ◌⊎◌, length, take}
+use Rattle.std.specs.Prelude.{◌≡◌, Bool, true, false, ◌⊎◌, length, take, Some, None, Option}
 use Rattle.std.proofs.Math.Path.{refl, ap}
 use Rattle.std.proofs.Common.{sym, ◌∙◌, subst, inl, inr, le_refl, arith, length-append, length-take, length-drop}
 use Rattle.std.proofs.Math.Bool.{cond}
@@ -12,8 +12,6 @@ use Rattle.descriptors.specs.Place.{after}
 use Rattle.descriptors.specs.Walk.{hand_over, run_bytes, run_data}
 use Rattle.descriptors.specs.declared.record.Owner.{Owner}
 use Rattle.descriptors.specs.declared.record.Owner.TheVariants.{Cpu, Dma}
-use Rattle.descriptors.specs.declared.record.Next.{Next}
-use Rattle.descriptors.specs.declared.record.Next.TheVariants.{Nothing, At}
 use Rattle.descriptors.specs.declared.record.DmaDescriptor.{DmaDescriptor}
 use Rattle.descriptors.specs.declared.record.TransferDirection.{TransferDirection}
 use Rattle.descriptors.specs.declared.record.TransferDirection.TheVariants.{In, Out}
@@ -53,14 +51,14 @@ join-append (k ∷ ks) ls = ap (λ (r : List ℕ). k ++ r) (join-append ks ls) �
 pub cat-append : (xs ys : List Cell) → cat (xs ++ ys) ≡ cat xs ++ cat ys
 cat-append xs ys = ap join (map-append (λ (x : Cell). x.held) xs ys) ∙ join-append (helds xs) (helds ys)
 
-abbrev pub first : List ℕ → Next
-first [] = Nothing
-first (i ∷ is) = At i
+abbrev pub first : List ℕ → Option ℕ
+first [] = None
+first (i ∷ is) = Some i
 
 -- ---- cells but for their links
 
 abbrev pub bare : Cell → Cell
-bare x = record { idx = x.idx; desc = with_next Nothing x.desc; held = x.held }
+bare x = record { idx = x.idx; desc = with_next None x.desc; held = x.held }
 
 abbrev pub bares : List Cell → List Cell
 bares xs = map bare xs
@@ -129,12 +127,12 @@ inside-cat o [] h = omega arith
 inside-cat o (x ∷ xs) (inl h) = omega arith
 inside-cat o (x ∷ xs) (inr h) = simp length-append (omega arith)
 
-first-snoc : (i : ℕ) (z : Cell) (zs : List Cell) (y : Cell) → At z.idx ≡ first (idxs (relink i (z ∷ zs) ++ (y ∷ [])))
+first-snoc : (i : ℕ) (z : Cell) (zs : List Cell) (y : Cell) → Some z.idx ≡ first (idxs (relink i (z ∷ zs) ++ (y ∷ [])))
 first-snoc i z [] y = refl
 first-snoc i z (x ∷ zs) y = refl
 
 -- a record that is handed over joins the end of the queue
-pub linked-snoc : (x : Cell) → x.desc.owner ≡ Dma → x.desc.next ≡ Nothing → (ys : List Cell) → Linked ys → Linked (relink x.idx ys ++ (x ∷ []))
+pub linked-snoc : (x : Cell) → x.desc.owner ≡ Dma → x.desc.next ≡ None → (ys : List Cell) → Linked ys → Linked (relink x.idx ys ++ (x ∷ []))
 linked-snoc x o n [] l = (o, n, tt)
 linked-snoc x o n (y ∷ []) l = (l.0, refl, (o, n, tt))
 linked-snoc x o n (y ∷ z ∷ zs) l = (l.0, l.1 ∙ first-snoc x.idx z zs x, linked-snoc x o n (z ∷ zs) l.2)

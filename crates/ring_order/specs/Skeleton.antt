@@ -1,11 +1,9 @@
 -- The bare bones of a ring, which both directions share: the records that its device's steps were on, how many records are queued, and
 -- where the device stands. Two moves: a device step, and records handed over. No bytes.
-use Rattle.std.specs.Prelude.{◌≡◌, refl, ◌⊎◌, ℕ, zero, suc, ◌+◌, ◌≤◌, ◌<◌, length, take, drop, get_or}
+use Rattle.std.specs.Prelude.{◌≡◌, refl, ◌⊎◌, ℕ, zero, suc, ◌+◌, ◌≤◌, ◌<◌, length, take, drop, get_or, Some, None, Option}
 use Rattle.std.proofs.Common.{sym, ◌∙◌, ap, subst, inl, inr, zero-add, add-zero, add-suc, mod-lt, arith, length-append, length-drop, get_or-take, get_or-drop, length-take-le}
 use mathlib.Core.List.{List, [], ◌∷◌, ◌++◌, foldl}
 use Rattle.descriptors.specs.Place.{after}
-use Rattle.descriptors.specs.declared.record.Next.{Next}
-use Rattle.descriptors.specs.declared.record.Next.TheVariants.{Nothing, At}
 use Rattle.ring_order.specs.Places.{place, place-zero, place-onto, after-place, turn, turn_suc, turn-mod}
 use Rattle.ring_order.specs.Lists.{tab, tab-snoc, get_or-tab}
 
@@ -49,20 +47,20 @@ in-turn n is h k l = ap (λ (x : List ℕ). get_or x k 0) h ∙ get_or-tab (leng
 
 -- ---- the two moves, of a ring of n whose device's steps were on `done`, with q records queued
 
-pub data Move (n q : ℕ) (dev : Next) (done : List ℕ) (q' : ℕ) (dev' : Next) (done' : List ℕ) : Type 0 where
+pub data Move (n q : ℕ) (dev : Option ℕ) (done : List ℕ) (q' : ℕ) (dev' : Option ℕ) (done' : List ℕ) : Type 0 where
   -- the device makes a step on the record that it stands on, and stops exactly when nothing is queued any more
-  steps : dev ≡ At (turn n (length done)) → done' ≡ done ++ (turn n (length done) ∷ []) → q ≡ suc q' → (dev' ≡ Nothing → q' ≡ 0) → Move n q dev done q' dev' done'
+  steps : dev ≡ Some (turn n (length done)) → done' ≡ done ++ (turn n (length done) ∷ []) → q ≡ suc q' → (dev' ≡ None → q' ≡ 0) → Move n q dev done q' dev' done'
   -- records are handed over, or nothing happens
   gives : done' ≡ done → q ≤ q' → dev' ≡ dev → Move n q dev done q' dev' done'
 
-pub stopped-not : (d : Next) (i : ℕ) → d ≡ At i → d ≡ Nothing → ⊥
+pub stopped-not : (d : Option ℕ) (i : ℕ) → d ≡ Some i → d ≡ None → ⊥
 stopped-not d i e f = let z : ◌≡◌ {A = ℕ} 0 1 = cc in omega arith
 
 -- ---- worlds that go on by actions, each of which is one of the moves
 
 pub record Life (W A : Type 0) : Type 1 where
   pub step : W → A → W
-  pub device : W → Next
+  pub device : W → Option ℕ
   pub done : W → List ℕ
   pub n : ℕ
   pub some : 0 < n
@@ -108,13 +106,13 @@ module _ {W A : Type 0} (L : Life W A) where
       among-get_or j e (take L.n is) (rw (length-take-le L.n is l) he) (p ∙ sym (get_or-take L.n is e 0 he ∙ kth q w g h acts e (omega arith)))
 
   -- a device that stands on a record and stops makes at least as many steps as records were queued
-  covers-by : {q q' : ℕ} (w : W) (i : ℕ) (a : A) (total : ℕ) → L.device w ≡ At i → Move L.n q (L.device w) (L.done w) q' (L.device (L.step w a)) (L.done (L.step w a)) → length (L.done (L.step w a)) ≤ total
-      → (x : Next) → L.device (L.step w a) ≡ x → ((i' : ℕ) → L.device (L.step w a) ≡ At i' → length (L.done (L.step w a)) + q' ≤ total) → length (L.done w) + q ≤ total
-  covers-by w i a total d (steps s e f g) l Nothing x ih = let z = ap length e ∙ length-append (L.done w) (turn L.n (length (L.done w)) ∷ []) in omega (arith, g x)
-  covers-by w i a total d (steps s e f g) l (At i') x ih = let z = ap length e ∙ length-append (L.done w) (turn L.n (length (L.done w)) ∷ []) in omega (arith, ih i' x)
+  covers-by : {q q' : ℕ} (w : W) (i : ℕ) (a : A) (total : ℕ) → L.device w ≡ Some i → Move L.n q (L.device w) (L.done w) q' (L.device (L.step w a)) (L.done (L.step w a)) → length (L.done (L.step w a)) ≤ total
+      → (x : Option ℕ) → L.device (L.step w a) ≡ x → ((i' : ℕ) → L.device (L.step w a) ≡ Some i' → length (L.done (L.step w a)) + q' ≤ total) → length (L.done w) + q ≤ total
+  covers-by w i a total d (steps s e f g) l None x ih = let z = ap length e ∙ length-append (L.done w) (turn L.n (length (L.done w)) ∷ []) in omega (arith, g x)
+  covers-by w i a total d (steps s e f g) l (Some i') x ih = let z = ap length e ∙ length-append (L.done w) (turn L.n (length (L.done w)) ∷ []) in omega (arith, ih i' x)
   covers-by w i a total d (gives e f g) l x y ih = let z = ap length e in omega (arith, ih i (g ∙ d))
 
-  covers : (q : ℕ) (w : W) → L.Good q w → (i : ℕ) → L.device w ≡ At i → (acts : List A) → L.device (foldl L.step w acts) ≡ Nothing → length (L.done w) + q ≤ length (L.done (foldl L.step w acts))
+  covers : (q : ℕ) (w : W) → L.Good q w → (i : ℕ) → L.device w ≡ Some i → (acts : List A) → L.device (foldl L.step w acts) ≡ None → length (L.done w) + q ≤ length (L.done (foldl L.step w acts))
   covers q w g i d [] e = absurd (stopped-not (L.device w) i d e)
   covers q w g i d (a ∷ more) e =
       let (q', g', m) = L.law q w g a in
@@ -122,18 +120,18 @@ module _ {W A : Type 0} (L : Life W A) where
       (λ i' d'. covers q' (L.step w a) g' i' d' more e)
 
   -- and the e-th of those queued is among them
-  pub before-stop : (q : ℕ) (w : W) → L.Good q w → InTurn L.n (L.done w) → (i : ℕ) → L.device w ≡ At i → (acts : List A) → L.device (foldl L.step w acts) ≡ Nothing → (e j : ℕ) → e < q
+  pub before-stop : (q : ℕ) (w : W) → L.Good q w → InTurn L.n (L.done w) → (i : ℕ) → L.device w ≡ Some i → (acts : List A) → L.device (foldl L.step w acts) ≡ None → (e j : ℕ) → e < q
       → j ≡ turn L.n (length (L.done w) + e) → Among j (since w acts)
   before-stop q w g h i d acts s e j l p =
       let k : e < length (since w acts) = rw (length-drop (length (L.done w)) (L.done (foldl L.step w acts))) (omega (arith, covers q w g i d acts s)) in
       among-get_or j e (since w acts) k (p ∙ sym (kth q w g h acts e k))
 
   -- a stopped device makes no more steps
-  still-by : {q q' : ℕ} (w : W) (a : A) → L.device w ≡ Nothing → Move L.n q (L.device w) (L.done w) q' (L.device (L.step w a)) (L.done (L.step w a)) → (L.done (L.step w a) ≡ L.done w) × (L.device (L.step w a) ≡ Nothing)
+  still-by : {q q' : ℕ} (w : W) (a : A) → L.device w ≡ None → Move L.n q (L.device w) (L.done w) q' (L.device (L.step w a)) (L.done (L.step w a)) → (L.done (L.step w a) ≡ L.done w) × (L.device (L.step w a) ≡ None)
   still-by w a d (steps s e f g) = absurd (stopped-not (L.device w) (turn L.n (length (L.done w))) s d)
   still-by w a d (gives e f g) = (e, g ∙ d)
 
-  pub still : (q : ℕ) (w : W) → L.Good q w → L.device w ≡ Nothing → (acts : List A) → (L.done (foldl L.step w acts) ≡ L.done w) × (L.device (foldl L.step w acts) ≡ Nothing)
+  pub still : (q : ℕ) (w : W) → L.Good q w → L.device w ≡ None → (acts : List A) → (L.done (foldl L.step w acts) ≡ L.done w) × (L.device (foldl L.step w acts) ≡ None)
   still q w g d [] = (refl, d)
   still q w g d (a ∷ more) =
       let (q', g', m) = L.law q w g a in

@@ -1,5 +1,5 @@
 -- One record changed, or the cursor's record handed over: what the other records are afterwards, and that the shape stays.
-use Rattle.std.specs.Prelude.{◌≡◌, refl, true, ◌≢◌, List, ℕ, ◌≤◌, ◌<◌, length}
+use Rattle.std.specs.Prelude.{◌≡◌, refl, true, ◌≢◌, List, ℕ, ◌≤◌, ◌<◌, length, Some, None}
 use Rattle.std.proofs.Common.{sym, ◌∙◌, le_refl, arith, lt-ltb}
 use Rattle.std.proofs.Math.Path.{ap}
 use Rattle.std.proofs.Math.Decide.{ℕ_discrete}
@@ -9,7 +9,6 @@ use Rattle.descriptors.specs.Ring.{below}
 use Rattle.descriptors.specs.Walk.{hand_over}
 use Rattle.descriptors.specs.laws.Updates.{update_same, update_other, update-length}
 use Rattle.descriptors.specs.declared.record.Owner.TheVariants.{Dma}
-use Rattle.descriptors.specs.declared.record.Next.TheVariants.{Nothing, At}
 use Rattle.descriptors.specs.declared.record.DmaDescriptor.{DmaDescriptor}
 use Rattle.descriptors.specs.declared.record.TransferDirection.{TransferDirection}
 use Rattle.descriptors.specs.declared.record.TransferDirection.TheVariants.{In, Out}
@@ -61,7 +60,7 @@ pub handed-dma : (dir : TransferDirection) (d : DmaDescriptor) → (handed dir d
 handed-dma In d = refl
 handed-dma Out d = refl
 
-pub handed-last : (dir : TransferDirection) (d : DmaDescriptor) → (handed dir d).next ≡ Nothing
+pub handed-last : (dir : TransferDirection) (d : DmaDescriptor) → (handed dir d).next ≡ None
 handed-last In d = refl
 handed-last Out d = refl
 
@@ -71,26 +70,26 @@ module _ (dir : TransferDirection) (n : ℕ) (ds : List DmaDescriptor) (c : ℕ)
   pub hand-same : record_in (hand_over dir n c ds) c ≡ handed dir (record_in ds c)
   unfolding hand_over
   hand-same =
-      update_other (update ds c (handed dir)) (before n c) c (with_next (At c)) (λ q. before-ne n c two (sym q)) ∙ update_same ds c (handed dir) (omega arith)
+      update_other (update ds c (handed dir)) (before n c) c (with_next (Some c)) (λ q. before-ne n c two (sym q)) ∙ update_same ds c (handed dir) (omega arith)
 
-  pub hand-before : record_in (hand_over dir n c ds) (before n c) ≡ with_next (At c) (record_in ds (before n c))
+  pub hand-before : record_in (hand_over dir n c ds) (before n c) ≡ with_next (Some c) (record_in ds (before n c))
   unfolding hand_over
   hand-before =
-      update_same (update ds c (handed dir)) (before n c) (with_next (At c)) (omega (arith, before-lt n c hc, update-length ds c (handed dir)))
-      ∙ ap (with_next (At c)) (update_other ds c (before n c) (handed dir) (before-ne n c two))
+      update_same (update ds c (handed dir)) (before n c) (with_next (Some c)) (omega (arith, before-lt n c hc, update-length ds c (handed dir)))
+      ∙ ap (with_next (Some c)) (update_other ds c (before n c) (handed dir) (before-ne n c two))
 
   pub hand-other : (j : ℕ) → j ≢ c → j ≢ before n c → record_in (hand_over dir n c ds) j ≡ record_in ds j
   unfolding hand_over
-  hand-other j nc nb = update_other (update ds c (handed dir)) (before n c) j (with_next (At c)) nb ∙ update_other ds c j (handed dir) nc
+  hand-other j nc nb = update_other (update ds c (handed dir)) (before n c) j (with_next (Some c)) nb ∙ update_other ds c j (handed dir) nc
 
 pub hand-length : (dir : TransferDirection) (n c : ℕ) (ds : List DmaDescriptor) → length (hand_over dir n c ds) ≡ length ds
 unfolding hand_over
-hand-length dir n c ds = update-length (update ds c (handed dir)) (before n c) (with_next (At c)) ∙ update-length ds c (handed dir)
+hand-length dir n c ds = update-length (update ds c (handed dir)) (before n c) (with_next (Some c)) ∙ update-length ds c (handed dir)
 
 pub shape-hand : (dir : TransferDirection) (n len : ℕ) (ds : List DmaDescriptor) (c : ℕ) → Shape n len ds → c < n → Shape n len (hand_over dir n c ds)
 unfolding hand_over
 shape-hand dir n len ds c s hc =
     let s₁ : Shape n len (update ds c (handed dir)) = shape-update n len ds c (handed dir) s hc (handed-fits dir n (record_in ds c)) in
     let hb = before-lt n c hc in
-    shape-update n len (update ds c (handed dir)) (before n c) (with_next (At c)) s₁ hb
+    shape-update n len (update ds c (handed dir)) (before n c) (with_next (Some c)) s₁ hb
     record { start = refl; room = refl; length = s₁.lengths (before n c) hb; next = lt-ltb c n hc }

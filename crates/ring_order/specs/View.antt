@@ -1,6 +1,6 @@
 -- The ring seen from its cursor: a list of cells, each a record with its number and the bytes that it counts for. Two laws lead from the
 -- stored records to the view: one record changed, and the cursor's record handed over. All else is about lists.
-use Rattle.std.specs.Prelude.{◌≡◌, ◌≢◌, length, take, drop, get_or, set}
+use Rattle.std.specs.Prelude.{◌≡◌, ◌≢◌, length, take, drop, get_or, set, Some, Option}
 use Rattle.std.proofs.Math.Path.{refl, ap}
 use Rattle.std.proofs.Common.{sym, ◌∙◌, zero-lt-suc, arith, length-append}
 use mathlib.Core.List.{List, [], ◌∷◌, ◌++◌, tail}
@@ -9,8 +9,6 @@ use Rattle.std.proofs.Math.Seq.{set-append_seam, get_or-append_seam}
 use Rattle.descriptors.specs.Record.{record_in, with_next, span_of, handed}
 use Rattle.descriptors.specs.Place.{after, before}
 use Rattle.descriptors.specs.Walk.{hand_over}
-use Rattle.descriptors.specs.declared.record.Next.{Next}
-use Rattle.descriptors.specs.declared.record.Next.TheVariants.{At}
 use Rattle.descriptors.specs.declared.record.DmaDescriptor.{DmaDescriptor}
 use Rattle.descriptors.specs.declared.record.TransferDirection.{TransferDirection}
 use Rattle.descriptors.specs.declared.record.TransferDirection.TheVariants.{In, Out}
@@ -44,7 +42,7 @@ view dir n ds b c = round (cell_in dir ds b) n n c
 
 -- a cell linked to record i, and one handed to the device
 abbrev pub link_c : ℕ → Cell → Cell
-link_c i x = record { idx = x.idx; desc = with_next (At i) x.desc; held = x.held }
+link_c i x = record { idx = x.idx; desc = with_next (Some i) x.desc; held = x.held }
 
 abbrev pub hand_c : TransferDirection → List ℕ → Cell → Cell
 hand_c dir b x = cell_with dir b x.idx (handed dir x.desc)
@@ -123,12 +121,12 @@ tab-give zero i f g y h e e' = λ j. e j ∷ e' j ∷ []
 tab-give (suc k) i f g y h e e' =
     λ j. h 0 (zero-lt-suc k) j ∷ tab-give k i (λ d. f (suc d)) (λ d. g (suc d)) y (λ d l. h (suc d) (suc-le-suc l)) e e' j
 
-held-linked : (dir : TransferDirection) (b : List ℕ) (x : Next) (d : DmaDescriptor) → held_by dir b (with_next x d) ≡ held_by dir b d
+held-linked : (dir : TransferDirection) (b : List ℕ) (x : Option ℕ) (d : DmaDescriptor) → held_by dir b (with_next x d) ≡ held_by dir b d
 held-linked In b x d = refl
 held-linked Out b x d = refl
 
-cell-linked : (dir : TransferDirection) (b : List ℕ) (i c : ℕ) (d : DmaDescriptor) → cell_with dir b i (with_next (At c) d) ≡ link_c c (cell_with dir b i d)
-cell-linked dir b i c d = ap (λ (h : List ℕ). record { idx = i; desc = with_next (At c) d; held = h }) (held-linked dir b (At c) d)
+cell-linked : (dir : TransferDirection) (b : List ℕ) (i c : ℕ) (d : DmaDescriptor) → cell_with dir b i (with_next (Some c) d) ≡ link_c c (cell_with dir b i d)
+cell-linked dir b i c d = ap (λ (h : List ℕ). record { idx = i; desc = with_next (Some c) d; held = h }) (held-linked dir b (Some c) d)
 
 module _ (dir : TransferDirection) (n : ℕ) (ds : List DmaDescriptor) (b : List ℕ) (c : ℕ) (hc : c < n) (hl : n ≤ length ds) (two : 2 ≤ n) where
   abbrev es : List DmaDescriptor

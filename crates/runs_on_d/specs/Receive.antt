@@ -2,30 +2,24 @@
 -- compared, on D, bytes in hex: the device fills 01 02 03, then 04 05 with EOF. Available 5; peek and peek_until_eof give all five, the
 -- latter with yes. Pop 4: 01 02 03 04, cursor (1,1), next of 3 is 0, next of 0 none. Pop 4: 05, cursor (2,0). Fill 06 07 08, then
 -- 09 0A 0B 0C 0D. Pop 5 leaves (3,2). peek: 0B 0C 0D .."
-use Rattle.std.specs.Prelude.{◌≡◌, refl, true, false, List, [], ◌∷◌, ℕ, length, replicate}
+use Rattle.std.specs.Prelude.{◌≡◌, refl, true, false, List, [], ◌∷◌, ℕ, length, replicate, Ok, Some, None, Option}
 use Rattle.descriptors.specs.Place.{turns}
 use Rattle.descriptors.specs.Record.{up_to}
 use Rattle.descriptors.specs.Split.{split_of, start_of, size_of, laid_out}
 use Rattle.descriptors.specs.Ring.{record_of, new_of, linked_all, split_sound, sound}
 use Rattle.descriptors.specs.Walk.{run_bytes, available_in, run_data, standing, walk, hand_over, planned, moved_to}
 use Rattle.descriptors.specs.declared.record.Owner.TheVariants.{Cpu}
-use Rattle.descriptors.specs.declared.record.Next.{Next}
-use Rattle.descriptors.specs.declared.record.Next.TheVariants.{Nothing, At}
 use Rattle.descriptors.specs.declared.record.DmaDescriptor.{DmaDescriptor}
 use Rattle.descriptors.specs.declared.record.TransferDirection.TheVariants.{In}
-use Rattle.descriptors.specs.declared.refusal.Done.TheVariants as done
-use Rattle.descriptors.specs.declared.refusal.Counted.{Counted}
-use Rattle.descriptors.specs.declared.refusal.Counted.TheVariants as counted
-use Rattle.rx_stream.specs.declared.Ended.{Ended}
-use Rattle.rx_stream.specs.declared.Ended.TheVariants as ended
 use Rattle.rx_stream.specs.Receive.{prepare_of, available_of, flat_bytes, flat_eof, peek_of, peek_eof_of, consume_of, pop_of, popped_over}
 use Rattle.device.specs.Device.{receive_of, receive_into}
 use Rattle.both_ends.specs.Demand3.{World, run, built, prepared, RxAction, pop, fill, rx_step, reached, Receive}
+use Rattle.descriptors.specs.Refusal.{Answer}
 use Rattle.both_ends.proofs.Theorem.{demand3}
 
 -- lent: records and bytes that hold anything
 abbrev lent : DmaDescriptor
-lent = record { buffer = 77; size = 5; length = 9; suc_eof = true; owner = Cpu; next = At 2 }
+lent = record { buffer = 77; size = 5; length = 9; suc_eof = true; owner = Cpu; next = Some 2 }
 
 abbrev records : List DmaDescriptor
 records = lent ∷ lent ∷ lent ∷ lent ∷ lent ∷ []
@@ -47,14 +41,14 @@ end = run rx_step again (fill (6 ∷ 7 ∷ 8 ∷ []) false ∷ fill (9 ∷ 10 �
 
 -- what is seen on the way
 pub record Seen : Type 0 where
-  pub available : Counted
+  pub available : Answer ℕ
   pub peeked : List ℕ
   pub until_eof : List ℕ
-  pub ended : Ended
+  pub ended : Answer Bool
   pub taken₁ : List ℕ
   pub cursor₁ : List ℕ
-  pub next₃ : Next
-  pub next₀ : Next
+  pub next₃ : Option ℕ
+  pub next₀ : Option ℕ
   pub taken₂ : List ℕ
   pub cursor₂ : List ℕ
   pub cursor₃ : List ℕ
@@ -92,14 +86,14 @@ seen =
 
 run-on-d : seen
     ≡ record {
-      available = counted.Bytes 5;
+      available = Ok 5;
       peeked = 1 ∷ 2 ∷ 3 ∷ 4 ∷ 5 ∷ [];
       until_eof = 1 ∷ 2 ∷ 3 ∷ 4 ∷ 5 ∷ [];
-      ended = ended.Eof true;
+      ended = Ok true;
       taken₁ = 1 ∷ 2 ∷ 3 ∷ 4 ∷ [];
       cursor₁ = 1 ∷ 1 ∷ [];
-      next₃ = At 0;
-      next₀ = Nothing;
+      next₃ = Some 0;
+      next₀ = None;
       taken₂ = 1 ∷ 2 ∷ 3 ∷ 4 ∷ 5 ∷ [];
       cursor₂ = 2 ∷ 0 ∷ [];
       cursor₃ = 3 ∷ 2 ∷ [];
@@ -114,7 +108,7 @@ unfolding rx_step new_of split_of start_of size_of laid_out up_to linked_all spl
 run-on-d = refl
 
 -- the demand's premise is met by this ring
-built-ready : (new_of In records 4 14).answer ≡ done.Ready
+built-ready : (new_of In records 4 14).answer ≡ (Ok tt)
 unfolding new_of split_of laid_out up_to
 built-ready = refl
 

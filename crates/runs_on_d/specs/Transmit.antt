@@ -1,6 +1,6 @@
 -- Document 01's transmit run on D (n = 4, 14 bytes), computed in the world of demand 3: "prefill 2: record 0 length 2, cursor (1,0),
 -- available 11. Prefill 3: (1,0), 11. Prefill 4: (1,1), 10; push 5 then gives (3,0). Prefill 14: (0,0), 0."
-use Rattle.std.specs.Prelude.{◌≡◌, refl, true, List, [], ◌∷◌, ℕ, ◌<◌, length, replicate}
+use Rattle.std.specs.Prelude.{◌≡◌, refl, true, List, [], ◌∷◌, ℕ, ◌<◌, length, replicate, Ok, Some, None}
 use Rattle.std.proofs.Common.{arith}
 use Rattle.descriptors.specs.Record.{up_to}
 use Rattle.descriptors.specs.Place.{turns}
@@ -8,10 +8,8 @@ use Rattle.descriptors.specs.Split.{split_of, start_of, size_of, laid_out}
 use Rattle.descriptors.specs.Ring.{record_of, split_sound, sound, new_of, linked_all}
 use Rattle.descriptors.specs.Walk.{run_bytes, available_in, run_data, standing, walk, hand_over, planned, moved_to}
 use Rattle.descriptors.specs.declared.record.Owner.TheVariants.{Cpu}
-use Rattle.descriptors.specs.declared.record.Next.TheVariants.{Nothing, At}
 use Rattle.descriptors.specs.declared.record.DmaDescriptor.{DmaDescriptor}
 use Rattle.descriptors.specs.declared.record.TransferDirection.TheVariants.{Out}
-use Rattle.descriptors.specs.declared.refusal.Done.TheVariants as done
 use Rattle.tx_stream.specs.Transmit.{prefill_of, prefill_into, prefill_offer_of, prefill_commit_of, reached, filled_to, cut_at, marked_ready, prepare_of, push_of, push_into, offer_of, advance_of, commit_of}
 use Rattle.device.specs.Device.{transmit_of, transmit_over}
 use Rattle.both_ends.specs.Demand3.{World, run, built, prepared, Prefill, pre_push, pre_write, pre_commit, prefill, TxAction, push, commit, write, send, tx_step, dma_data, queued_in, pending_in, Transmit}
@@ -19,7 +17,7 @@ use Rattle.both_ends.proofs.Theorem.{demand3}
 
 -- records as they may be lent
 abbrev lent : DmaDescriptor
-lent = record { buffer = 77; size = 5; length = 900; suc_eof = true; owner = Cpu; next = At 9 }
+lent = record { buffer = 77; size = 5; length = 900; suc_eof = true; owner = Cpu; next = Some 9 }
 
 abbrev ring_d : List Prefill → World
 ring_d before = prepared prepare_of (run prefill (built Out (replicate 64 lent) 4 (replicate 14 0)) before)
@@ -56,14 +54,14 @@ abbrev sends : World
 sends = run tx_step four (push (5 ∷ 6 ∷ 7 ∷ 8 ∷ 9 ∷ []) ∷ send out ∷ send out ∷ write 1 (11 ∷ []) ∷ write 0 (10 ∷ []) ∷ commit 2 ∷ send out ∷ send out ∷ [])
 
 -- after it record 3 waits with two bytes: the device, which found nothing queued behind record 2, is stopped
-pub in-the-end : (sends.ring.idx ≡ 3) × (sends.ring.offset ≡ 2) × (sends.device ≡ Nothing)
+pub in-the-end : (sends.ring.idx ≡ 3) × (sends.ring.offset ≡ 2) × (sends.device ≡ None)
     × (sends.visited ≡ 0 ∷ 1 ∷ 2 ∷ []) × (sends.by_steps ≡ 1 ∷ 2 ∷ 3 ∷ 4 ∷ 5 ∷ 6 ∷ 7 ∷ 8 ∷ 9 ∷ []) × (sends.by_calls ≡ 1 ∷ 2 ∷ 3 ∷ 4 ∷ 5 ∷ 6 ∷ 7 ∷ 8 ∷ 9 ∷ 10 ∷ 11 ∷ [])
     × (queued_in sends.ring sends.bytes ≡ []) × (pending_in sends.ring sends.bytes ≡ 10 ∷ 11 ∷ []) × (sends.ring.tally ≡ 11)
 unfolding tx_step dma_data queued_in pending_in prefill prefill_of prefill_into prefill_offer_of prefill_commit_of reached filled_to cut_at marked_ready prepare_of up_to split_of start_of size_of laid_out split_sound new_of linked_all run_bytes available_in turns sound run_data standing walk hand_over planned moved_to push_of push_into offer_of advance_of commit_of transmit_of transmit_over
 in-the-end = (refl, refl, refl, refl, refl, refl, refl, refl, refl)
 
 -- the premises of the demand are met by this ring
-d-is-built : (new_of Out (replicate 64 lent) 4 14).answer ≡ done.Ready
+d-is-built : (new_of Out (replicate 64 lent) 4 14).answer ≡ (Ok tt)
 unfolding new_of split_of laid_out up_to
 d-is-built = refl
 

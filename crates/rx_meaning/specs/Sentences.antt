@@ -1,15 +1,12 @@
 -- DOCUMENT 01'S SENTENCES ON MODULE 3, over plain lists; and what holds of every sound receive ring, whatever its owners and links.
-use Rattle.std.specs.Prelude.{ℕ, ◌+◌, ◌-◌, ◌≤◌, ◌<◌, min, ◌≡◌, refl, Bool, true, false, ◌⊎◌, List, ◌++◌, length, take, drop}
+use Rattle.std.specs.Prelude.{ℕ, ◌+◌, ◌-◌, ◌≤◌, ◌<◌, min, ◌≡◌, refl, Bool, true, false, ◌⊎◌, List, ◌++◌, length, take, drop, Ok}
 use Rattle.std.proofs.Common.{sym, ◌∙◌, ap, arith, drop_of_length-le, take_all}
 use Rattle.std.proofs.Math.Decide.{dec_le}
 use Rattle.descriptors.specs.Record.{is_cpu}
 use Rattle.descriptors.specs.Ring.{Ring, record_of, sound}
 use Rattle.descriptors.specs.Walk.{available_in, standing, advanced, planned}
 use Rattle.descriptors.specs.declared.record.TransferDirection.TheVariants.{In}
-use Rattle.descriptors.specs.declared.refusal.Counted.TheVariants as counted
 use Rattle.rx_stream.specs.Receive.{available_of, peek_of, peek_from, peek_eof_of, consume_of, idle, pop_of, over, popped_over}
-use Rattle.rx_stream.specs.declared.Took.TheVariants as took
-use Rattle.rx_stream.specs.declared.Ended.TheVariants as ended
 use Rattle.rx_stream.specs.laws.Answers.{available-done, peek-done, peek-eof-done, consume-done, pop-idle, pop-done, popped-idle, popped-done}
 use Rattle.ring_order.specs.Shape.{Sound, sound-of}
 use Rattle.ring_order.specs.Rows.{total, turned, cpu_owned, available-row}
@@ -38,8 +35,8 @@ module _ (r : Ring) (len : ℕ) (s : sound In r len ≡ true) where
   enough = facts.shape.laid.enough
 
   -- "`available_bytes`: lengths from the cursor round the ring up to the first DMA-owned record, less offset"
-  pub available-bytes : available_of r len ≡ counted.Bytes (total In (cpu_owned (turned r.descriptors r.count r.idx)) - r.offset)
-  available-bytes = available-done r len s ∙ ap counted.Bytes (available-row In r enough facts.cursor)
+  pub available-bytes : available_of r len ≡ Ok (total In (cpu_owned (turned r.descriptors r.count r.idx)) - r.offset)
+  available-bytes = available-done r len s ∙ ap Ok (available-row In r enough facts.cursor)
 
   -- "`peek`: .. the bytes from the cursor on, through records while each is full, ending with the first short one, before a DMA-owned
   -- one, or at record n-1"
@@ -51,20 +48,20 @@ module _ (r : Ring) (len : ℕ) (s : sound In r len ≡ true) where
       ∙ ap (λ (k : ℕ). take (k - r.offset) (drop (peek_from r) b)) (piece_bytes r.descriptors r.count enough u (r.count - r.idx) r.idx (omega (arith, facts.cursor)))
 
   -- "says whether it did": the mark of the last record that it covers
-  pub peek-eof : peek_eof_of r len ≡ ended.Eof (last_eof (one_piece true (drop r.idx (take r.count r.descriptors))))
+  pub peek-eof : peek_eof_of r len ≡ Ok (last_eof (one_piece true (drop r.idx (take r.count r.descriptors))))
   peek-eof =
-      peek-eof-done r len s ∙ ap ended.Eof (piece-eof r.descriptors r.count enough (r.count - r.idx) r.idx (omega (arith, facts.cursor)))
+      peek-eof-done r len s ∙ ap Ok (piece-eof r.descriptors r.count enough (r.count - r.idx) r.idx (omega (arith, facts.cursor)))
 
   module _ (k : ℕ) where
     taking : (consume_of r len k).ring ≡ advanced In r k
     taking = ap (λ o. o.ring) (consume-done r len k s)
 
     -- "`consume(k)` takes min(k, available)." "It reports the bytes taken and the records gone back": those whose owner went to DMA
-    pub consume-reports : (consume_of r len k).answer ≡ took.Bytes (min k (available_in In r)) (count_below (went_over r (consume_of r len k).ring) r.count)
+    pub consume-reports : (consume_of r len k).answer ≡ Ok (record { taken = min k (available_in In r); back = count_below (went_over r (consume_of r len k).ring) r.count })
     consume-reports =
         ap (λ o. o.answer) (consume-done r len k s)
-        ∙ ap (λ (t : ℕ). took.Bytes t (planned In r k).back) (takes-min In r len s k)
-        ∙ ap (took.Bytes (min k (available_in In r))) (as-many-went In r len s k ∙ ap (λ (q : Ring). count_below (went_over r q) r.count) (sym taking))
+        ∙ ap (λ (t : ℕ). Ok (record { taken = t; back = (planned In r k).back })) (takes-min In r len s k)
+        ∙ ap (λ (z1 : ℕ). Ok (record { taken = min k (available_in In r); back = z1 })) (as-many-went In r len s k ∙ ap (λ (q : Ring). count_below (went_over r q) r.count) (sym taking))
 
     -- unread after consume(k) is unread less its first min(k, available) bytes
     pub consume-unread : (b : List ℕ) → length b ≡ len → standing In (consume_of r len k).ring b ≡ drop (min k (available_in In r)) (standing In r b)
@@ -78,14 +75,14 @@ module _ (r : Ring) (len : ℕ) (s : sound In r len ≡ true) where
     consume-live = rw taking (device-or-more In r len s k)
 
     -- "`pop(k)`: 0 for k = 0, and 0 while the cursor's record is CPU-owned with length 0"
-    pub pop-nothing : idle r k ≡ true → ((pop_of r len k).answer ≡ counted.Bytes 0) × ((pop_of r len k).ring ≡ r)
+    pub pop-nothing : idle r k ≡ true → ((pop_of r len k).answer ≡ Ok 0) × ((pop_of r len k).ring ≡ r)
     pop-nothing i = let e = pop-idle r len k s i in (ap (λ o. o.answer) e, ap (λ o. o.ring) e)
 
     -- "otherwise it takes, as consume does, the next min(k, available) bytes"
-    pub pop-takes : idle r k ≡ false → ((pop_of r len k).answer ≡ counted.Bytes (min k (available_in In r))) × ((pop_of r len k).ring ≡ (consume_of r len k).ring)
+    pub pop-takes : idle r k ≡ false → ((pop_of r len k).answer ≡ Ok (min k (available_in In r))) × ((pop_of r len k).ring ≡ (consume_of r len k).ring)
     pop-takes i =
         let e = pop-done r len k s i in
-        (ap (λ o. o.answer) e ∙ ap counted.Bytes (takes-min In r len s k), ap (λ o. o.ring) e ∙ sym taking)
+        (ap (λ o. o.answer) e ∙ ap Ok (takes-min In r len s k), ap (λ o. o.ring) e ∙ sym taking)
 
   -- what pop writes is those bytes: "the destination's rest is untouched"
   pub pop-writes : (b dst : List ℕ) → length b ≡ len → idle r (length dst) ≡ false

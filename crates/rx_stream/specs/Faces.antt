@@ -5,8 +5,6 @@ use Rattle.descriptors.specs.Cells.{record_at, starts_now, cells_now}
 use Rattle.descriptors.specs.Ring.{Ring, Outcome, head_of}
 use Rattle.descriptors.specs.Walk.{walk_in}
 use Rattle.descriptors.specs.declared.record.TransferDirection.TheVariants.{In}
-use Rattle.descriptors.specs.declared.refusal.Counted.{Counted}
-use Rattle.descriptors.specs.declared.refusal.Done.{Done}
 use Rattle.descriptors.specs.declared.ring.Head.{Head}
 use Rattle.descriptors.specs.declared.ring.Headed.{Headed}
 use Rattle.descriptors.specs.declared.walk.Moved.{Moved}
@@ -20,22 +18,23 @@ use Rattle.rx_stream.specs.declared.buf.Prepared.{Prepared}
 use Rattle.rx_stream.specs.declared.buf.Parts.{Parts}
 use Rattle.rx_stream.specs.declared.view.DmaRxStreamBufView.{DmaRxStreamBufView}
 use Rattle.rx_stream.specs.declared.view.Consumed.{Consumed}
+use Rattle.descriptors.specs.Refusal.{Answer}
 use Rattle.rx_stream.specs.declared.view.Popped.{Popped}
 
 -- ---- in place: the head and the answer; the cells are cells_now of the outcome's records
 
-abbrev pub headed_of : Outcome Done → Headed
+abbrev pub headed_of : Outcome (Answer Unit) → Headed
 headed_of o = record { head = head_of o.ring; answer = o.answer }
 
-abbrev pub consuming_of : Outcome Took → Consuming
+abbrev pub consuming_of : Outcome (Answer Took) → Consuming
 consuming_of o = record { head = head_of o.ring; answer = o.answer }
 
-abbrev pub popping_of : Outcome Counted → Popping
+abbrev pub popping_of : Outcome (Answer ℕ) → Popping
 popping_of o = record { head = head_of o.ring; answer = o.answer }
 
 -- ---- by value: the cells show the outcome's records, and the starts do where they change, in `new`
 
-abbrev pub built_of : List ℕ → List ℕ → Outcome Done → Built
+abbrev pub built_of : List ℕ → List ℕ → Outcome (Answer Unit) → Built
 built_of st ws o =
     record {
       ring = record { starts = starts_now st ws o.ring.descriptors; cells = cells_now st ws o.ring.descriptors; head = head_of o.ring };
@@ -45,16 +44,16 @@ built_of st ws o =
 abbrev pub buf_now : DmaRxStreamBuf → Ring → DmaRxStreamBuf
 buf_now b r = record { starts = b.starts; cells = cells_now b.starts b.cells r.descriptors; head = head_of r }
 
-abbrev pub prepared_of : DmaRxStreamBuf → Outcome Done → Prepared
+abbrev pub prepared_of : DmaRxStreamBuf → Outcome (Answer Unit) → Prepared
 prepared_of b o = record { ring = buf_now b o.ring; answer = o.answer }
 
 abbrev pub view_now : DmaRxStreamBufView → Ring → DmaRxStreamBufView
 view_now v r = record { starts = v.starts; cells = cells_now v.starts v.cells r.descriptors; head = head_of r }
 
-abbrev pub consumed_of : DmaRxStreamBufView → Outcome Took → Consumed
+abbrev pub consumed_of : DmaRxStreamBufView → Outcome (Answer Took) → Consumed
 consumed_of v o = record { ring = view_now v o.ring; answer = o.answer }
 
-abbrev pub popped_of : DmaRxStreamBufView → Outcome Counted → Popped
+abbrev pub popped_of : DmaRxStreamBufView → Outcome (Answer ℕ) → Popped
 popped_of v o = record { ring = view_now v o.ring; answer = o.answer }
 
 -- ---- a buf and its view: a transfer starts at cursor (0,0)

@@ -1,19 +1,13 @@
 -- Module 3, "Receive". A ring's rules ask for its buffer's length, or for the buffer's bytes.
-use Rattle.std.specs.Prelude.{ℕ, zero, suc, ◌+◌, ◌-◌, Bool, false, cond, ◌&&◌, ◌||◌, List, [], ◌++◌, length, take, drop, ◌==◌, nat_lt}
+use Rattle.std.specs.Prelude.{ℕ, zero, suc, ◌+◌, ◌-◌, Bool, false, cond, ◌&&◌, ◌||◌, List, [], ◌++◌, length, take, drop, ◌==◌, nat_lt, Ok, Err}
 use Rattle.descriptors.specs.Record.{record_in, is_cpu}
 use Rattle.descriptors.specs.Ring.{Ring, Outcome, refused, record_of, sound, split_sound, judged, linked_all}
 use Rattle.descriptors.specs.Walk.{available_in, standing, advanced, taken_in, planned}
 use Rattle.descriptors.specs.declared.record.DmaDescriptor.{DmaDescriptor}
 use Rattle.descriptors.specs.declared.record.TransferDirection.TheVariants.{In}
 use Rattle.descriptors.specs.declared.refusal.DmaBufError.TheVariants.{BadState}
-use Rattle.descriptors.specs.declared.refusal.Counted.{Counted}
-use Rattle.descriptors.specs.declared.refusal.Counted.TheVariants as counted
-use Rattle.descriptors.specs.declared.refusal.Done.{Done}
-use Rattle.descriptors.specs.declared.refusal.Done.TheVariants as done
+use Rattle.descriptors.specs.Refusal.{Answer}
 use Rattle.rx_stream.specs.declared.Took.{Took}
-use Rattle.rx_stream.specs.declared.Took.TheVariants as took
-use Rattle.rx_stream.specs.declared.Ended.{Ended}
-use Rattle.rx_stream.specs.declared.Ended.TheVariants as ended
 
 -- "`prepare`: next i+1, last none; all DMA, EOF off, length 0 ..; cursor (0,0)"; "`prepare` leaves the tally alone"
 abbrev pub prepared_ring : Ring → Ring
@@ -27,12 +21,12 @@ prepared_ring r =
       prefilled = r.prefilled;
     }
 
-unfoldable pub prepare_of : Ring → ℕ → Outcome Done
-prepare_of r len = cond (split_sound r len) record { ring = prepared_ring r; answer = done.Ready } (refused r (done.Refused BadState))
+unfoldable pub prepare_of : Ring → ℕ → Outcome (Answer Unit)
+prepare_of r len = cond (split_sound r len) record { ring = prepared_ring r; answer = Ok tt } (refused r (Err BadState))
 
 -- "`available_bytes`: lengths from the cursor round the ring up to the first DMA-owned record, less offset"
-unfoldable pub available_of : Ring → ℕ → Counted
-available_of r len = cond (sound In r len) (counted.Bytes (available_in In r)) (counted.Refused BadState)
+unfoldable pub available_of : Ring → ℕ → Answer ℕ
+available_of r len = cond (sound In r len) (Ok (available_in In r)) (Err BadState)
 
 -- ---- peek
 
@@ -66,31 +60,31 @@ unfoldable pub peek_place : Ring → List ℕ → ℕ
 peek_place r bytes = cond (sound In r (length bytes)) (peek_from r) 0
 
 -- "a companion call on the same inputs gives the refusal's number or, for `peek_until_eof`, the yes or no"
-unfoldable pub peek_refusal_of : Ring → ℕ → Done
+unfoldable pub peek_refusal_of : Ring → ℕ → Answer Unit
 peek_refusal_of r len = judged (sound In r len)
 
-unfoldable pub peek_eof_of : Ring → ℕ → Ended
+unfoldable pub peek_eof_of : Ring → ℕ → Answer Bool
 peek_eof_of r len =
-    cond (sound In r len) (ended.Eof (flat_eof (record_in r.descriptors) (r.count - r.idx) r.idx)) (ended.Refused BadState)
+    cond (sound In r len) (Ok (flat_eof (record_in r.descriptors) (r.count - r.idx) r.idx)) (Err BadState)
 
 -- ---- consume and pop
 
 -- "`consume(k)` takes min(k, available)." "It reports the bytes taken and the records gone back."
-unfoldable pub consume_of : Ring → ℕ → ℕ → Outcome Took
+unfoldable pub consume_of : Ring → ℕ → ℕ → Outcome (Answer Took)
 consume_of r len k =
-    cond (sound In r len) record { ring = advanced In r k; answer = took.Bytes (taken_in In r k) (planned In r k).back }
-    (refused r (took.Refused BadState))
+    cond (sound In r len) record { ring = advanced In r k; answer = Ok (record { taken = taken_in In r k; back = (planned In r k).back }) }
+    (refused r (Err BadState))
 
 -- "`pop(k)`: 0 for k = 0, and 0 while the cursor's record is CPU-owned with length 0"
 abbrev pub idle : Ring → ℕ → Bool
 idle r k = k == 0 || (is_cpu (record_of r r.idx).owner && (record_of r r.idx).length == 0)
 
 -- "otherwise it takes, as consume does, the next min(k, available) bytes"
-unfoldable pub pop_of : Ring → ℕ → ℕ → Outcome Counted
+unfoldable pub pop_of : Ring → ℕ → ℕ → Outcome (Answer ℕ)
 pop_of r len k =
     cond (sound In r len)
-    (cond (idle r k) record { ring = r; answer = counted.Bytes 0 } record { ring = advanced In r k; answer = counted.Bytes (taken_in In r k) })
-    (refused r (counted.Refused BadState))
+    (cond (idle r k) record { ring = r; answer = Ok 0 } record { ring = advanced In r k; answer = Ok (taken_in In r k) })
+    (refused r (Err BadState))
 
 -- s over the front of d: "the destination's rest is untouched"
 abbrev pub over : List ℕ → List ℕ → List ℕ

@@ -9,7 +9,6 @@ use crate::in_place;
 use crate::view::DmaRxStreamBufView;
 use descriptors::cells::CELLS;
 use descriptors::record::{LIMIT, TransferDirection};
-use descriptors::refusal::Done;
 use descriptors::ring;
 use descriptors::ring::Head;
 
@@ -24,14 +23,14 @@ pub struct DmaRxStreamBuf {
 #[derive(Clone, Copy)]
 pub struct Built {
     pub ring: DmaRxStreamBuf,
-    pub answer: Done,
+    pub answer: Result<(), DmaBufError>,
 }
 
 // What prepare answers, and the ring that it leaves.
 #[derive(Clone, Copy)]
 pub struct Prepared {
     pub ring: DmaRxStreamBuf,
-    pub answer: Done,
+    pub answer: Result<(), DmaBufError>,
 }
 
 // The words that a ring was made of.

@@ -8,9 +8,9 @@ ghost use Rattle.descriptors.specs.Ring.{ring_of};
 ghost use Rattle.rx_stream.specs.Receive.{prepare_of, available_of, peek_of, peek_place, peek_refusal_of, peek_eof_of, consume_of, pop_of, popped_over};
 ghost use Rattle.rx_stream.specs.Faces.{headed_of, consuming_of, popping_of, step_in, taken_by};
 
-use crate::{Ended, Took, copy, piece};
+use crate::{Took, copy, piece};
 use descriptors::record::TransferDirection;
-use descriptors::refusal::{Counted, DmaBufError, Done};
+use descriptors::refusal::DmaBufError;
 use descriptors::ring::{Head, Headed};
 use descriptors::{cells, ring, walk};
 
@@ -19,7 +19,7 @@ pub fn prepare_in(s: &[u32], w: &mut [u16], h: Head, len: usize) -> Headed
     ensures value { result ≡ headed_of (prepare_of (ring_of s.now w.old h) len) }
 {
     let answer = ring::judge_split(s, w, h, len);
-    let Done::Ready = answer else {
+    let Ok(()) = answer else {
         return Headed { head: h, answer };
     };
     walk::link_all(w, TransferDirection::In, h.count);
@@ -34,15 +34,15 @@ pub fn prepare_in(s: &[u32], w: &mut [u16], h: Head, len: usize) -> Headed
 }
 
 // The number of bytes that are available to read.
-pub fn available_in<'a>(s: &'a [u32], w: &'a [u16], h: Head, len: usize) -> Counted
+pub fn available_in<'a>(s: &'a [u32], w: &'a [u16], h: Head, len: usize) -> Result<usize, DmaBufError>
     ensures { result ≡ available_of (ring_of s.now w.now h) len }
 {
     let answer = ring::judge(TransferDirection::In, s, w, h, len);
-    let Done::Ready = answer else {
-        return Counted::Refused(DmaBufError::BadState);
+    let Ok(()) = answer else {
+        return Err(DmaBufError::BadState);
     };
     let total = walk::run_bytes(w, TransferDirection::In, h.count, h.descriptor_idx);
-    Counted::Bytes(total - h.descriptor_offset)
+    Ok(total - h.descriptor_offset)
 }
 
 // ---- the part that can be read without a copy
@@ -58,7 +58,7 @@ fn part_in<'a, 'b>(
     ensures ref_ptr_value { result.ref_ptr ≡ part_from buffer.entry (peek_place (ring_of s.now w.now h) buffer.now) }
 {
     let answer = ring::judge(TransferDirection::In, s, w, h, buffer.len());
-    let Done::Ready = answer else {
+    let Ok(()) = answer else {
         return &buffer[0..0];
     };
     let i = h.descriptor_idx;
@@ -86,21 +86,21 @@ pub fn peek_until_eof_in<'a, 'b>(s: &'b [u32], w: &'b [u16], h: Head, buffer: &'
 }
 
 // Why a peek of these words is empty, if it was refused.
-pub fn peek_refusal_in<'a>(s: &'a [u32], w: &'a [u16], h: Head, len: usize) -> Done
+pub fn peek_refusal_in<'a>(s: &'a [u32], w: &'a [u16], h: Head, len: usize) -> Result<(), DmaBufError>
     ensures { result ≡ peek_refusal_of (ring_of s.now w.now h) len }
 {
     ring::judge(TransferDirection::In, s, w, h, len)
 }
 
 // Whether the part of peek_until_eof_in ends with an EOF.
-pub fn peek_eof_in<'a>(s: &'a [u32], w: &'a [u16], h: Head, len: usize) -> Ended
+pub fn peek_eof_in<'a>(s: &'a [u32], w: &'a [u16], h: Head, len: usize) -> Result<bool, DmaBufError>
     ensures { result ≡ peek_eof_of (ring_of s.now w.now h) len }
 {
     let answer = ring::judge(TransferDirection::In, s, w, h, len);
-    let Done::Ready = answer else {
-        return Ended::Refused(DmaBufError::BadState);
+    let Ok(()) = answer else {
+        return Err(DmaBufError::BadState);
     };
-    Ended::Eof(piece::flat_eof(w, h.count, h.descriptor_idx))
+    Ok(piece::flat_eof(w, h.count, h.descriptor_idx))
 }
 
 // ---- bytes taken
@@ -139,7 +139,7 @@ fn take_in(w: &mut [u16], h: Head, k: usize) -> Taking
 #[derive(Clone, Copy)]
 pub struct Consuming {
     pub head: Head,
-    pub answer: Took,
+    pub answer: Result<Took, DmaBufError>,
 }
 
 // Consumes the first k bytes, or all there are, and gives fully consumed records back to the device.
@@ -148,20 +148,20 @@ pub fn consume_in(s: &[u32], w: &mut [u16], h: Head, len: usize, k: usize) -> Co
     ensures value { result ≡ consuming_of (consume_of (ring_of s.now w.old h) len k) }
 {
     let answer = ring::judge(TransferDirection::In, s, w, h, len);
-    let Done::Ready = answer else {
+    let Ok(()) = answer else {
         return Consuming {
             head: h,
-            answer: Took::Refused(DmaBufError::BadState),
+            answer: Err(DmaBufError::BadState),
         };
     };
     let m = take_in(w, h, k);
     let head = m.head;
     Consuming {
         head,
-        answer: Took::Bytes {
+        answer: Ok(Took {
             taken: m.taken,
             back: m.back,
-        },
+        }),
     }
 }
 
@@ -182,7 +182,7 @@ fn idle(w: &[u16], i: usize, k: usize) -> bool
 #[derive(Clone, Copy)]
 pub struct Popping {
     pub head: Head,
-    pub answer: Counted,
+    pub answer: Result<usize, DmaBufError>,
 }
 
 // Reads as much as possible into dst from the available bytes.
@@ -192,17 +192,17 @@ pub fn pop_in(s: &[u32], w: &mut [u16], h: Head, buffer: &[u8], dst: &mut [u8]) 
     ensures value { result ≡ popping_of (pop_of (ring_of s.now w.old h) (length buffer.now) (length dst.old)) }
 {
     let answer = ring::judge(TransferDirection::In, s, w, h, buffer.len());
-    let Done::Ready = answer else {
+    let Ok(()) = answer else {
         return Popping {
             head: h,
-            answer: Counted::Refused(DmaBufError::BadState),
+            answer: Err(DmaBufError::BadState),
         };
     };
     let k = dst.len();
     if idle(w, h.descriptor_idx, k) {
         return Popping {
             head: h,
-            answer: Counted::Bytes(0),
+            answer: Ok(0),
         };
     }
     copy::copy_run(s, w, h, buffer, dst);
@@ -210,6 +210,6 @@ pub fn pop_in(s: &[u32], w: &mut [u16], h: Head, buffer: &[u8], dst: &mut [u8]) 
     let head = m.head;
     Popping {
         head,
-        answer: Counted::Bytes(m.taken),
+        answer: Ok(m.taken),
     }
 }

@@ -5,10 +5,9 @@ ghost use Rattle.descriptors.specs.Ring.{ring_of};
 ghost use Rattle.rx_stream.specs.Receive.{available_of, peek_of, peek_place, peek_refusal_of, peek_eof_of, consume_of, pop_of, popped_over};
 ghost use Rattle.rx_stream.specs.Faces.{consumed_of, popped_of};
 
-use crate::{Ended, Took, in_place};
+use crate::{Took, in_place};
 use descriptors::cells::CELLS;
 use descriptors::record::LIMIT;
-use descriptors::refusal::{Counted, Done};
 use descriptors::ring::Head;
 
 #[derive(Clone, Copy)]
@@ -22,19 +21,19 @@ pub struct DmaRxStreamBufView {
 #[derive(Clone, Copy)]
 pub struct Consumed {
     pub ring: DmaRxStreamBufView,
-    pub answer: Took,
+    pub answer: Result<Took, DmaBufError>,
 }
 
 // What pop answers, and the ring that it leaves.
 #[derive(Clone, Copy)]
 pub struct Popped {
     pub ring: DmaRxStreamBufView,
-    pub answer: Counted,
+    pub answer: Result<usize, DmaBufError>,
 }
 
 impl DmaRxStreamBufView {
     // The number of bytes that are available to read from a buffer of len bytes.
-    pub fn available_bytes(self, len: usize) -> Counted
+    pub fn available_bytes(self, len: usize) -> Result<usize, DmaBufError>
         ensures { result ≡ available_of (ring_of self.starts self.cells self.head) len }
     {
         let s = self.starts;
@@ -66,7 +65,7 @@ impl DmaRxStreamBufView {
     }
 
     // Why a peek of this ring is empty, if it was refused.
-    pub fn peek_refusal(self, len: usize) -> Done
+    pub fn peek_refusal(self, len: usize) -> Result<(), DmaBufError>
         ensures { result ≡ peek_refusal_of (ring_of self.starts self.cells self.head) len }
     {
         let s = self.starts;
@@ -76,7 +75,7 @@ impl DmaRxStreamBufView {
     }
 
     // Whether the part of peek_until_eof ends with an EOF.
-    pub fn peek_eof(self, len: usize) -> Ended
+    pub fn peek_eof(self, len: usize) -> Result<bool, DmaBufError>
         ensures { result ≡ peek_eof_of (ring_of self.starts self.cells self.head) len }
     {
         let s = self.starts;

@@ -1,6 +1,6 @@
 -- g records handed over from c on: what each record is then, but for its link.
 use Prim.Native.Nat.{ℕ, zero, suc, ◌+◌, ◌-◌, ◌≤◌, ◌<◌}
-use Rattle.std.specs.Prelude.{◌≡◌, ◌≢◌, length, take, drop}
+use Rattle.std.specs.Prelude.{◌≡◌, ◌≢◌, length, take, drop, None}
 use Rattle.std.proofs.Math.Path.{refl, sym, ap}
 use Rattle.std.proofs.Common.{◌∙◌}
 use Rattle.std.proofs.Math.Bool.{false, cond}
@@ -11,7 +11,6 @@ use Rattle.descriptors.specs.Record.{record_in, is_cpu, span_of, handed, with_ne
 use Rattle.descriptors.specs.Place.{after, before, turns}
 use Rattle.descriptors.specs.Walk.{run_data, hand_over}
 use Rattle.descriptors.specs.declared.record.Owner.{Owner}
-use Rattle.descriptors.specs.declared.record.Next.TheVariants.{Nothing}
 use Rattle.descriptors.specs.declared.record.DmaDescriptor.{DmaDescriptor}
 use Rattle.descriptors.specs.declared.record.TransferDirection.{TransferDirection}
 use Rattle.descriptors.specs.declared.record.TransferDirection.TheVariants.{In, Out}
@@ -22,7 +21,7 @@ use Rattle.ring_order.specs.Stores.{hand-same, hand-before, hand-other, handed-d
 
 -- a record without its link
 abbrev pub bare : DmaDescriptor → DmaDescriptor
-bare d = with_next Nothing d
+bare d = with_next None d
 
 handed-bare : (dir : TransferDirection) (d : DmaDescriptor) → bare (handed dir d) ≡ handed dir (bare d)
 handed-bare In d = refl

@@ -1,15 +1,14 @@
 -- "Twelve entries for the proved table": "one constant table, proved by a single computed test and also run by the program".
-use Rattle.std.specs.Prelude.{ℕ, zero, suc, ◌+◌, ◌*◌, ◌≡◌, refl, Bool, true, ◌&&◌, List, [], ◌∷◌, eqb, get_or, length}
+use Rattle.std.specs.Prelude.{ℕ, zero, suc, ◌+◌, ◌*◌, ◌≡◌, refl, Bool, true, ◌&&◌, List, [], ◌∷◌, eqb, get_or, length, Ok, Err}
 use Rattle.descriptors.specs.Refusal.{number_of}
 use Rattle.descriptors.specs.Cells.{all_below}
 use Rattle.descriptors.specs.Split.{split_of}
 use Rattle.descriptors.specs.declared.refusal.DmaBufError.{DmaBufError}
 use Rattle.descriptors.specs.declared.split.Split.{Split}
-use Rattle.descriptors.specs.declared.split.Split.TheVariants as split
 use Rattle.psram.specs.Cut.{cut_of, plan_of, head_of, tail_of}
 use Rattle.psram.specs.declared.chip.Chip.TheVariants.{Ordinary, S2}
 use Rattle.psram.specs.declared.plan.Cut.{Cut}
-use Rattle.psram.specs.declared.plan.Cut.TheVariants as cut
+use Rattle.descriptors.specs.Refusal.{Answer}
 use Rattle.table.specs.declared.Answer.{Answer}
 
 -- a row has seven numbers: what is asked (0 the split of b bytes over a records, 1 the cut of b bytes at address a on an ordinary chip, 2
@@ -41,13 +40,13 @@ rows =
 abbrev pub refused_answer : DmaBufError → Answer
 refused_answer e = record { refused = number_of e; first = 0; second = 0; third = 0 }
 
-abbrev pub split_answer : Split → Answer
-split_answer (split.Parts chunk rest) = record { refused = 0; first = chunk; second = chunk + rest; third = 0 }
-split_answer (split.Refused e) = refused_answer e
+abbrev pub split_answer : Answer Split → Answer
+split_answer (Ok x) = record { refused = 0; first = x.chunk; second = x.chunk + x.rest; third = 0 }
+split_answer (Err e) = refused_answer e
 
-abbrev pub cut_answer : Cut → Answer
-cut_answer (cut.Parts head middle tail) = record { refused = 0; first = head; second = middle; third = tail }
-cut_answer (cut.Refused e) = refused_answer e
+abbrev pub cut_answer : Answer Cut → Answer
+cut_answer (Ok x) = record { refused = 0; first = x.head; second = x.middle; third = x.tail }
+cut_answer (Err e) = refused_answer e
 
 abbrev pub answer_of : ℕ → ℕ → ℕ → Answer
 answer_of zero a b = split_answer (split_of a b)

@@ -47,7 +47,7 @@ fn refused(e: DmaBufError) -> Answer
     ensures { result ≡ refused_answer e }
 {
     Answer {
-        refused: refusal::number(e) as usize,
+        refused: u8::from(e) as usize,
         first: 0,
         second: 0,
         third: 0,
@@ -59,13 +59,13 @@ fn split_answer(n: usize, len: usize) -> Answer
 {
     let parts = split::split_of(n, len);
     match parts {
-        Split::Parts { chunk, rest } => Answer {
+        Ok(Split { chunk, rest }) => Answer {
             refused: 0,
             first: chunk,
             second: chunk + rest,
             third: 0,
         },
-        Split::Refused(e) => refused(e),
+        Err(e) => refused(e),
     }
 }
 
@@ -74,13 +74,13 @@ fn cut_answer(address: u32, length: u32, chip: Chip) -> Answer
 {
     let parts = cut::cut(address, length, chip);
     match parts {
-        Cut::Parts { head, middle, tail } => Answer {
+        Ok(Cut { head, middle, tail }) => Answer {
             refused: 0,
             first: head,
             second: middle,
             third: tail,
         },
-        Cut::Refused(e) => refused(e),
+        Err(e) => refused(e),
     }
 }
 

@@ -2,11 +2,10 @@
 -- afterwards. Show that no two differing outcomes satisfy it". A contract that is one equation does by the first law alone, and those of
 -- the crates `capi`, `by_value` and `lent`, which have an equation for each thing, by `by-equations`. Of each other call
 -- the contract is named here, over all that the call answers or changes, and every input stands before it.
-use Rattle.std.specs.Prelude.{ℕ, ◌≡◌, refl, Bool, List, length}
+use Rattle.std.specs.Prelude.{ℕ, ◌≡◌, refl, Bool, List, length, Option}
 use Rattle.std.proofs.Common.{sym, ◌∙◌}
 use Rattle.descriptors.specs.Cells.{cells_now, put_start, put_record}
 use Rattle.descriptors.specs.Ring.{Ring, ring_of, NewIn}
-use Rattle.descriptors.specs.declared.record.Next.{Next}
 use Rattle.descriptors.specs.declared.record.DmaDescriptor.{DmaDescriptor}
 use Rattle.descriptors.specs.declared.record.TransferDirection.{TransferDirection}
 use Rattle.descriptors.specs.declared.ring.Head.{Head}
@@ -41,6 +40,7 @@ use Rattle.device.specs.Faces.{ReceivedIn, SentIn}
 use Rattle.device.specs.declared.by_value.ReceivedStep.{ReceivedStep}
 use Rattle.device.specs.declared.by_value.SentStep.{SentStep}
 use Rattle.device.specs.declared.receive.Received.{Received}
+use Rattle.descriptors.specs.Refusal.{Answer}
 use Rattle.device.specs.declared.transmit.Sent.{Sent}
 
 -- no two differing outcomes satisfy the contract C
@@ -84,33 +84,33 @@ new_in dir st ws n len x y e f =
 
 -- `build_descriptor_list_for_psram`: the starts, the cells and the answer
 pub build-list : (st ws : List ℕ) (l : Listing)
-    → Determined (λ (x : List ℕ × List ℕ × Listed). Leaves st ws x.0 x.1 x.2 l)
+    → Determined (λ (x : List ℕ × List ℕ × (Answer Listed)). Leaves st ws x.0 x.1 x.2 l)
 build-list st ws l x y e f = rw (e.0, e.1.0, e.1.1, f.0, f.1.0, f.1.1) refl
 
 -- `piece`: its bytes, and where it begins in the one of the two lent slices that holds it
-pub piece : (store range : Bor (List ℕ)) (h : Held) → Determined (λ (x : List ℕ × (ℕ × ℕ)). (x.0 ≡ shown_of store.now range.now h) × (x.1 ≡ place_of store range h))
+pub piece : (store range : Bor (List ℕ)) (h : Answer Held) → Determined (λ (x : List ℕ × (ℕ × ℕ)). (x.0 ≡ shown_of store.now range.now h) × (x.1 ≡ place_of store range h))
 piece store range h = by_two _ _
 
 -- ---- device
 
 -- the receive step: the cells, the buffer, and the device with the answer
-pub receive-step : (st ws : List ℕ) (h : Head) (dev : Next) (bytes bs : List ℕ) (eof : Bool)
+pub receive-step : (st ws : List ℕ) (h : Head) (dev : Option ℕ) (bytes bs : List ℕ) (eof : Bool)
     → Determined (λ (x : List ℕ × List ℕ × Received). ReceivedIn st ws h dev bytes bs eof x.0 x.1 x.2)
 receive-step st ws h dev bytes bs eof x y e f =
     rw (e.cells, e.buffer, e.device, e.answer, f.cells, f.buffer, f.device, f.answer) refl
 
 -- the transmit step: the cells, the output, and the device with the answer
-pub transmit-step : (st ws : List ℕ) (h : Head) (dev : Next) (bytes out : List ℕ)
+pub transmit-step : (st ws : List ℕ) (h : Head) (dev : Option ℕ) (bytes out : List ℕ)
     → Determined (λ (x : List ℕ × List ℕ × Sent). SentIn st ws h dev bytes out x.0 x.1 x.2)
 transmit-step st ws h dev bytes out x y e f =
     rw (e.cells, e.output, e.device, e.answer, f.cells, f.output, f.device, f.answer) refl
 
 -- the steps by value: the ring with device and answer, and the bytes
-pub receive-step-by-value : (v : DmaRxStreamBufView) (dev : Next) (bytes bs : List ℕ) (eof : Bool) → let r = ring_of v.starts v.cells v.head in
+pub receive-step-by-value : (v : DmaRxStreamBufView) (dev : Option ℕ) (bytes bs : List ℕ) (eof : Bool) → let r = ring_of v.starts v.cells v.head in
     Determined (λ (x : ReceivedStep × List ℕ). (x.0 ≡ received_of v (receive_of r dev (length bytes) (length bs) eof)) × (x.1 ≡ receive_into r dev bytes bs))
 receive-step-by-value v dev bytes bs eof = by_two _ _
 
-pub transmit-step-by-value : (v : DmaTxStreamBufView) (dev : Next) (bytes out : List ℕ) → let r = ring_of v.starts v.cells v.head in
+pub transmit-step-by-value : (v : DmaTxStreamBufView) (dev : Option ℕ) (bytes out : List ℕ) → let r = ring_of v.starts v.cells v.head in
     Determined (λ (x : SentStep × List ℕ). (x.0 ≡ sent_of v (transmit_of r dev (length bytes) (length out))) × (x.1 ≡ transmit_over r dev bytes out))
 transmit-step-by-value v dev bytes out = by_two _ _
 

@@ -1,6 +1,6 @@
 -- What a call leaves in the words and the head is the ring that the next call reads. So calls on words, one after another, are the rules
 -- on rings, one after another: those that demand 3 is about.
-use Rattle.std.specs.Prelude.{ℕ, zero, suc, ◌+◌, ◌*◌, ◌-◌, ◌≤◌, ◌<◌, ◌≡◌, refl, Bool, true, false, cond, List, [], ◌∷◌, ◌++◌, map, eqb, leb, ltb, get_or, length}
+use Rattle.std.specs.Prelude.{ℕ, zero, suc, ◌+◌, ◌*◌, ◌-◌, ◌≤◌, ◌<◌, ◌≡◌, refl, Bool, true, false, cond, List, [], ◌∷◌, ◌++◌, map, eqb, leb, ltb, get_or, length, Ok, Err, Some, None, Option}
 use Rattle.std.proofs.Common.{sym, ◌∙◌, ap, arith, lt-ltb, length-append, length-set, get_or-append-add, ext_get_or}
 use Rattle.std.proofs.Math.Decide.{dec_lt}
 use Rattle.std.proofs.Math.ListN.{get_or-append, get_or-map}
@@ -16,25 +16,18 @@ use Rattle.descriptors.specs.laws.Lifts.{Words, words, are-records, records-tab,
 use Rattle.descriptors.specs.laws.Words.{starts-kept}
 use Rattle.descriptors.specs.laws.Updates.{each-length}
 use Rattle.descriptors.specs.declared.split.Split.{Split}
-use Rattle.descriptors.specs.declared.split.Split.TheVariants as split
 use Rattle.descriptors.specs.declared.refusal.DmaBufError.TheVariants.{BadState}
-use Rattle.descriptors.specs.declared.refusal.Counted.{Counted}
-use Rattle.descriptors.specs.declared.refusal.Done.{Done}
-use Rattle.descriptors.specs.declared.refusal.Done.TheVariants as done
 use Rattle.descriptors.specs.declared.record.Owner.{Owner}
 use Rattle.descriptors.specs.declared.record.Owner.TheVariants.{Cpu, Dma}
-use Rattle.descriptors.specs.declared.record.Next.{Next}
-use Rattle.descriptors.specs.declared.record.Next.TheVariants.{Nothing, At}
 use Rattle.descriptors.specs.declared.record.DmaDescriptor.{DmaDescriptor}
 use Rattle.descriptors.specs.declared.record.TransferDirection.{TransferDirection}
 use Rattle.descriptors.specs.declared.record.TransferDirection.TheVariants.{In, Out}
 use Rattle.descriptors.specs.declared.ring.Head.{Head}
 use Rattle.device.specs.Device.{Stepped, stand_of, fits, receive_by, receive_of, transmit_by, transmit_of}
-use Rattle.device.specs.declared.stand.Stand.{Stand}
-use Rattle.device.specs.declared.stand.Stand.TheVariants as stand
 use Rattle.rx_stream.specs.Receive as rx
 use Rattle.rx_stream.specs.Receive.{consume_of, pop_of, idle}
 use Rattle.tx_stream.specs.Transmit as tx
+use Rattle.descriptors.specs.Refusal.{Answer}
 use Rattle.tx_stream.specs.Transmit.{Marked, reached, filled, filled_to, cut, cut_at, marked_ready, prefill_of, prefill_commit_of, push_of, offered, accepted_up_to, advance_of, commit_of}
 
 -- ---- the words that show 64 records show just these
@@ -183,8 +176,8 @@ keeps-turns n f e (suc g) i ds = keeps_then (e i ds) (keeps-turns n f e g (after
 
 pub keeps-hand : (dir : TransferDirection) (n i : ℕ) (ds : List DmaDescriptor) → Keeps ds (hand_over dir n i ds)
 unfolding hand_over
-keeps-hand In n i ds = keeps_then (keeps-update ds i (handed In) refl) (keeps-update (update ds i (handed In)) (before n i) (with_next (At i)) refl)
-keeps-hand Out n i ds = keeps_then (keeps-update ds i (handed Out) refl) (keeps-update (update ds i (handed Out)) (before n i) (with_next (At i)) refl)
+keeps-hand In n i ds = keeps_then (keeps-update ds i (handed In) refl) (keeps-update (update ds i (handed In)) (before n i) (with_next (Some i)) refl)
+keeps-hand Out n i ds = keeps_then (keeps-update ds i (handed Out) refl) (keeps-update (update ds i (handed Out)) (before n i) (with_next (Some i)) refl)
 
 pub keeps-advanced : (dir : TransferDirection) (r : Ring) (k : ℕ) → Keeps r.descriptors (advanced dir r k).descriptors
 unfolding moved_to
@@ -201,7 +194,7 @@ pick ds f true x y h k = h
 pick ds f false x y h k = k
 
 -- `prepare` on transmit
-cut-start : (s t : Bool) (d : DmaDescriptor) → (cond s (with_owner Cpu d) (cond t (with_next Nothing d) d)).buffer ≡ d.buffer
+cut-start : (s t : Bool) (d : DmaDescriptor) → (cond s (with_owner Cpu d) (cond t (with_next None d) d)).buffer ≡ d.buffer
 cut-start true t d = refl
 cut-start false true d = refl
 cut-start false false d = refl
@@ -262,14 +255,14 @@ next-reads-new st ws r h = rw (read st ws r.descriptors h) refl
 either : {A : Type 0} (ds : List DmaDescriptor) (b : Bool) (o p : Outcome A) → Keeps ds o.ring.descriptors → Keeps ds p.ring.descriptors → Keeps ds (cond b o p).ring.descriptors
 either {A} ds = pick ds (λ (o : Outcome A). o.ring.descriptors)
 
-new-many : (dir : TransferDirection) (ds : List DmaDescriptor) (n len : ℕ) (x : Split) → length (new_by dir ds n len x).ring.descriptors ≡ length ds
-new-many dir ds n len (split.Refused e) = refl
-new-many dir ds n len (split.Parts chunk rest) = go (ltb (length ds) n)
+new-many : (dir : TransferDirection) (ds : List DmaDescriptor) (n len : ℕ) (x : Answer Split) → length (new_by dir ds n len x).ring.descriptors ≡ length ds
+new-many dir ds n len (Err e) = refl
+new-many dir ds n len (Ok x) = go (ltb (length ds) n)
   where
     laid-many : length (laid_out dir n len ds) ≡ length ds
     laid-many = unfold laid_out in each-length (laid dir n len) n ds
 
-    go : (b : Bool) → length (cond b (refused (fresh ds n) (done.Refused BadState)) record { ring = fresh (laid_out dir n len ds) n; answer = done.Ready }).ring.descriptors ≡ length ds
+    go : (b : Bool) → length (cond b (refused (fresh ds n) (Err BadState)) record { ring = fresh (laid_out dir n len ds) n; answer = Ok tt }).ring.descriptors ≡ length ds
     go true = refl
     go false = laid-many
 
@@ -340,20 +333,20 @@ module _ (st ws : List ℕ) where
     commit-is-read k = up-to-is-read (offered ring len) k
 
     -- the device's steps
-    received : (dev : Next) (k : ℕ) (eof : Bool) (x : Stand) → Keeps lent (receive_by ring dev k eof x).ring.descriptors
-    received dev k eof (stand.Refused e) = kept
-    received dev k eof (stand.On i) =
-        pick lent (λ (s : Stepped Done). s.ring.descriptors) (fits k (record_of ring i)) _ _ (keeps-update lent i (closed k eof) refl) kept
+    received : (dev : Option ℕ) (k : ℕ) (eof : Bool) (x : Answer ℕ) → Keeps lent (receive_by ring dev k eof x).ring.descriptors
+    received dev k eof (Err e) = kept
+    received dev k eof (Ok i) =
+        pick lent (λ (s : Stepped (Answer Unit)). s.ring.descriptors) (fits k (record_of ring i)) _ _ (keeps-update lent i (closed k eof) refl) kept
 
-    pub receive-is-read : (dev : Next) (k : ℕ) (eof : Bool) → Read (receive_of ring dev len k eof).ring
+    pub receive-is-read : (dev : Option ℕ) (k : ℕ) (eof : Bool) → Read (receive_of ring dev len k eof).ring
     unfolding receive_of
     receive-is-read dev k eof = next-reads st ws (receive_of ring dev len k eof).ring (received dev k eof (stand_of In ring len dev))
 
-    sends : (dev : Next) (room : ℕ) (x : Stand) → Keeps lent (transmit_by ring dev room x).ring.descriptors
-    sends dev room (stand.Refused e) = kept
-    sends dev room (stand.On i) =
-        pick lent (λ (s : Stepped Counted). s.ring.descriptors) (leb (record_of ring i).length room) _ _ (keeps-update lent i sent refl) kept
+    sends : (dev : Option ℕ) (room : ℕ) (x : Answer ℕ) → Keeps lent (transmit_by ring dev room x).ring.descriptors
+    sends dev room (Err e) = kept
+    sends dev room (Ok i) =
+        pick lent (λ (s : Stepped (Answer ℕ)). s.ring.descriptors) (leb (record_of ring i).length room) _ _ (keeps-update lent i sent refl) kept
 
-    pub transmit-is-read : (dev : Next) (room : ℕ) → Read (transmit_of ring dev len room).ring
+    pub transmit-is-read : (dev : Option ℕ) (room : ℕ) → Read (transmit_of ring dev len room).ring
     unfolding transmit_of
     transmit-is-read dev room = next-reads st ws (transmit_of ring dev len room).ring (sends dev room (stand_of Out ring len dev))

@@ -1,5 +1,5 @@
 -- Document 01's own sentences on available bytes and on `prepare`, over plain lists of records.
-use Rattle.std.specs.Prelude.{◌≡◌, refl, Bool, true, ◌⊎◌, List, [], ◌∷◌, ◌++◌, ℕ, zero, suc, ◌+◌, ◌-◌, ◌≤◌, ◌<◌, take}
+use Rattle.std.specs.Prelude.{◌≡◌, refl, Bool, true, ◌⊎◌, List, [], ◌∷◌, ◌++◌, ℕ, zero, suc, ◌+◌, ◌-◌, ◌≤◌, ◌<◌, take, Ok, Err}
 use Rattle.std.proofs.Common.{sym, ◌∙◌, subst, inl, inr, add-one, arith, eq-eqb, take-suc}
 use Rattle.std.proofs.Math.Path.{ap}
 use Rattle.std.proofs.Math.Bool.{cond}
@@ -12,8 +12,6 @@ use Rattle.descriptors.specs.declared.record.DmaDescriptor.{DmaDescriptor}
 use Rattle.descriptors.specs.declared.record.TransferDirection.{TransferDirection}
 use Rattle.descriptors.specs.declared.record.TransferDirection.TheVariants.{Out}
 use Rattle.descriptors.specs.declared.refusal.DmaBufError.TheVariants.{BadState}
-use Rattle.descriptors.specs.declared.refusal.Counted.TheVariants as counted
-use Rattle.descriptors.specs.declared.refusal.Done.TheVariants as done
 use Rattle.ring_order.specs.Geometry.{Geometry, apart, within}
 use Rattle.ring_order.specs.Shape.{Laid, Sound, sound-of, grounds, laid_of}
 use Rattle.ring_order.specs.Rows.{total, turned, cpu_owned, available-row}
@@ -24,12 +22,12 @@ use Rattle.both_ends.specs.transmit.Prepared.{readied, freed, Held, short, whole
 
 -- "`available_bytes`: sizes of the CPU-owned run from the cursor, less offset"
 pub available-bytes : (r : Ring) (len : ℕ) → sound Out r len ≡ true
-    → available_of r len ≡ counted.Bytes (total Out (cpu_owned (turned r.descriptors r.count r.idx)) - r.offset)
+    → available_of r len ≡ Ok (total Out (cpu_owned (turned r.descriptors r.count r.idx)) - r.offset)
 unfolding available_of
 available-bytes r len s =
     let f : Sound Out r len = sound-of Out r len s in
-    ap (λ (t : Bool). cond t (counted.Bytes (available_in Out r)) (counted.Refused BadState)) s
-    ∙ ap counted.Bytes (available-row Out r f.shape.laid.enough f.cursor)
+    ap (λ (t : Bool). cond t (Ok (available_in Out r)) (Err BadState)) s
+    ∙ ap Ok (available-row Out r f.shape.laid.enough f.cursor)
 
 -- ---- the sizes of the first records
 
@@ -100,7 +98,7 @@ module _ (r : Ring) (len : ℕ) (h : split_sound r len ≡ true) where
 
   prepare-is : (prepare_of r len).ring ≡ prepared_as r marked
   unfolding prepare_of
-  prepare-is = ap (λ (t : Bool). (cond t record { ring = prepared_as r marked; answer = done.Ready } (refused r (done.Refused BadState))).ring) h
+  prepare-is = ap (λ (t : Bool). (cond t record { ring = prepared_as r marked; answer = Ok tt } (refused r (Err BadState))).ring) h
 
   marks-here : 0 < r.prefilled → Marks r.count len r.prefilled r.descriptors marked
   marks-here hb = marks r.count len r.prefilled r.descriptors laid-here hb (laid_of r len h).1

@@ -1,36 +1,32 @@
 -- How the code's answers are read from the rules' outcomes, and what the parts of the calls do to the words.
-use Rattle.std.specs.Prelude.{ℕ, ◌+◌, ◌-◌, ◌%◌, ◌^◌, true, cond, List, [], length, ◌==◌, nat_le}
+use Rattle.std.specs.Prelude.{ℕ, ◌+◌, ◌-◌, ◌%◌, ◌^◌, true, cond, List, [], length, ◌==◌, nat_le, Ok, Err, None}
 use Rattle.descriptors.specs.Record.{limit, up_to}
 use Rattle.descriptors.specs.Cells.{cell, record_at, put_length, put_eof, put_owner, put_next}
 use Rattle.descriptors.specs.Stores.{hand_all}
 use Rattle.descriptors.specs.Ring.{Outcome, Ring, head_of, sound, split_sound}
 use Rattle.descriptors.specs.Walk.{run_bytes, walk_in}
 use Rattle.descriptors.specs.declared.record.Owner.TheVariants.{Cpu}
-use Rattle.descriptors.specs.declared.record.Next.TheVariants.{Nothing}
 use Rattle.descriptors.specs.declared.record.TransferDirection.TheVariants.{Out}
-use Rattle.descriptors.specs.declared.refusal.Counted.{Counted}
-use Rattle.descriptors.specs.declared.refusal.Counted.TheVariants as counted
-use Rattle.descriptors.specs.declared.refusal.Done.{Done}
-use Rattle.descriptors.specs.declared.refusal.Done.TheVariants as done
 use Rattle.descriptors.specs.declared.ring.Head.{Head}
 use Rattle.descriptors.specs.declared.ring.Headed.{Headed}
 use Rattle.descriptors.specs.declared.walk.Moved.{Moved}
 use Rattle.tx_stream.specs.Transmit.{Reached, reached, write_at}
 use Rattle.tx_stream.specs.declared.answer.Accepting.{Accepting}
+use Rattle.descriptors.specs.Refusal.{Answer}
 use Rattle.tx_stream.specs.declared.prepare.Cursor.{Cursor}
 
 -- ---- the answers in place
 
-abbrev pub accepting_of : Outcome Counted → Accepting
+abbrev pub accepting_of : Outcome (Answer ℕ) → Accepting
 accepting_of o = record { head = head_of o.ring; answer = o.answer }
 
-abbrev pub headed_of : Outcome Done → Headed
+abbrev pub headed_of : Outcome (Answer Unit) → Headed
 headed_of o = record { head = head_of o.ring; answer = o.answer }
 
 -- what the judge said, as a count
-abbrev pub counted_of : Done → Counted
-counted_of done.Ready = counted.Bytes 0
-counted_of (done.Refused e) = counted.Refused e
+abbrev pub counted_of : Answer Unit → Answer ℕ
+counted_of (Ok tt) = Ok 0
+counted_of (Err e) = Err e
 
 -- ---- the parts on offer: each is the very part of the lent buffer that begins at a place
 
@@ -84,7 +80,7 @@ fill_cells i ws = put_eof (put_length ws i (cell 0 ws i)) i true
 
 -- record i, where the list ends before record c
 unfoldable pub cut_cells : ℕ → ℕ → List ℕ → List ℕ
-cut_cells c i ws = cond (nat_le c i) (put_owner ws i Cpu) (cond (i + 1 == c) (put_next ws i Nothing) ws)
+cut_cells c i ws = cond (nat_le c i) (put_owner ws i Cpu) (cond (i + 1 == c) (put_next ws i None) ws)
 
 abbrev pub marked_cells_at : ℕ → ℕ → List ℕ → ℕ → List ℕ
 marked_cells_at n b ws at =

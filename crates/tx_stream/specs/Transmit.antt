@@ -1,18 +1,14 @@
 -- Module 4, "Transmit". A ring's rules ask for its buffer's length, or for the buffer's bytes.
-use Rattle.std.specs.Prelude.{ℕ, zero, suc, ◌+◌, ◌-◌, ◌%◌, ◌^◌, min, true, cond, List, [], length, take, drop, ◌==◌, nat_le, nat_lt}
+use Rattle.std.specs.Prelude.{ℕ, zero, suc, ◌+◌, ◌-◌, ◌%◌, ◌^◌, min, true, cond, List, [], length, take, drop, ◌==◌, nat_le, nat_lt, Ok, Err, None}
 use Rattle.std.proofs.Math.Seq.{paste}
 use Rattle.descriptors.specs.Record.{record_in, update, up_to, with_owner, with_length, with_eof, with_next}
 use Rattle.descriptors.specs.Ring.{Ring, Outcome, refused, record_of, sound, split_sound, judged, linked_all}
 use Rattle.descriptors.specs.Walk.{available_in, advanced}
 use Rattle.descriptors.specs.declared.record.Owner.TheVariants.{Cpu}
-use Rattle.descriptors.specs.declared.record.Next.TheVariants.{Nothing}
 use Rattle.descriptors.specs.declared.record.DmaDescriptor.{DmaDescriptor}
 use Rattle.descriptors.specs.declared.record.TransferDirection.TheVariants.{Out}
+use Rattle.descriptors.specs.Refusal.{Answer}
 use Rattle.descriptors.specs.declared.refusal.DmaBufError.TheVariants.{BadState, TooMuch}
-use Rattle.descriptors.specs.declared.refusal.Counted.{Counted}
-use Rattle.descriptors.specs.declared.refusal.Counted.TheVariants as counted
-use Rattle.descriptors.specs.declared.refusal.Done.{Done}
-use Rattle.descriptors.specs.declared.refusal.Done.TheVariants as done
 
 -- ---- before `prepare`
 
@@ -29,10 +25,10 @@ prefilled_by r k =
     }
 
 -- "Before `prepare`, push copies behind the prefilled bytes."
-unfoldable pub prefill_of : Ring → ℕ → ℕ → Outcome Counted
+unfoldable pub prefill_of : Ring → ℕ → ℕ → Outcome (Answer ℕ)
 prefill_of r len k =
-    cond (split_sound r len) record { ring = prefilled_by r (min k (len - r.prefilled)); answer = counted.Bytes (min k (len - r.prefilled)) }
-    (refused r (counted.Refused BadState))
+    cond (split_sound r len) record { ring = prefilled_by r (min k (len - r.prefilled)); answer = Ok (min k (len - r.prefilled)) }
+    (refused r (Err BadState))
 
 unfoldable pub prefill_into : Ring → List ℕ → List ℕ → List ℕ
 prefill_into r bytes bs =
@@ -42,15 +38,15 @@ prefill_into r bytes bs =
 unfoldable pub prefill_offer_of : Ring → List ℕ → List ℕ
 prefill_offer_of r bytes = cond (split_sound r (length bytes)) (drop r.prefilled bytes) []
 
-unfoldable pub prefill_offer_refusal_of : Ring → ℕ → Done
+unfoldable pub prefill_offer_refusal_of : Ring → ℕ → Answer Unit
 prefill_offer_refusal_of r len = judged (split_sound r len)
 
 -- "then a commit of a count": 8 "above the length of the part then on offer"
-unfoldable pub prefill_commit_of : Ring → ℕ → ℕ → Outcome Counted
+unfoldable pub prefill_commit_of : Ring → ℕ → ℕ → Outcome (Answer ℕ)
 prefill_commit_of r len k =
     cond (split_sound r len)
-    (cond (nat_le k (len - r.prefilled)) record { ring = prefilled_by r k; answer = counted.Bytes k } (refused r (counted.Refused TooMuch)))
-    (refused r (counted.Refused BadState))
+    (cond (nat_le k (len - r.prefilled)) record { ring = prefilled_by r k; answer = Ok k } (refused r (Err TooMuch)))
+    (refused r (Err BadState))
 
 -- ---- `prepare`
 
@@ -72,7 +68,7 @@ filled_to d ds = up_to (λ i s. update s i (λ r. filled r.size r)) d ds
 
 -- "the record before the cursor gets next none and the cursor's record and all after it become CPU"
 abbrev pub cut : ℕ → ℕ → DmaDescriptor → DmaDescriptor
-cut c i d = cond (nat_le c i) (with_owner Cpu d) (cond (i + 1 == c) (with_next Nothing d) d)
+cut c i d = cond (nat_le c i) (with_owner Cpu d) (cond (i + 1 == c) (with_next None d) d)
 
 unfoldable pub cut_at : ℕ → ℕ → List DmaDescriptor → List DmaDescriptor
 cut_at n c ds = up_to (λ i s. update s i (cut c i)) n ds
@@ -100,24 +96,24 @@ prepared_as r m =
 
 -- "`prepare` links as above, all DMA, then `mark_tx_stream_descriptors_ready` with the prefilled count b gives the cursor; the count
 -- is then 0"
-unfoldable pub prepare_of : Ring → ℕ → Outcome Done
+unfoldable pub prepare_of : Ring → ℕ → Outcome (Answer Unit)
 prepare_of r len =
     cond (split_sound r len)
-    record { ring = prepared_as r (marked_ready r.count r.prefilled (linked_all Out r.count r.descriptors)); answer = done.Ready }
-    (refused r (done.Refused BadState))
+    record { ring = prepared_as r (marked_ready r.count r.prefilled (linked_all Out r.count r.descriptors)); answer = Ok tt }
+    (refused r (Err BadState))
 
 -- ---- after it
 
 -- "`available_bytes`: sizes of the CPU-owned run from the cursor, less offset"
-unfoldable pub available_of : Ring → ℕ → Counted
-available_of r len = cond (sound Out r len) (counted.Bytes (available_in Out r)) (counted.Refused BadState)
+unfoldable pub available_of : Ring → ℕ → Answer ℕ
+available_of r len = cond (sound Out r len) (Ok (available_in Out r)) (Err BadState)
 
 -- "`push` accepts min(data, available)"
-unfoldable pub push_of : Ring → ℕ → ℕ → Outcome Counted
+unfoldable pub push_of : Ring → ℕ → ℕ → Outcome (Answer ℕ)
 push_of r len k =
     cond (sound Out r len)
-    record { ring = advanced Out r (min k (available_in Out r)); answer = counted.Bytes (min k (available_in Out r)) }
-    (refused r (counted.Refused BadState))
+    record { ring = advanced Out r (min k (available_in Out r)); answer = Ok (min k (available_in Out r)) }
+    (refused r (Err BadState))
 
 -- where the next byte goes
 abbrev pub write_at : Ring → ℕ
@@ -139,19 +135,19 @@ offered r len = min (available_in Out r) (len - write_at r)
 unfoldable pub offer_of : Ring → List ℕ → List ℕ
 offer_of r bytes = cond (sound Out r (length bytes)) (take (offered r (length bytes)) (drop (write_at r) bytes)) []
 
-unfoldable pub offer_refusal_of : Ring → ℕ → Done
+unfoldable pub offer_refusal_of : Ring → ℕ → Answer Unit
 offer_refusal_of r len = judged (sound Out r len)
 
 -- "Advance and commit accept the bytes then standing there." 8: "advance above available; commit above the length of the part then
 -- on offer"
-abbrev pub accepted_up_to : ℕ → Ring → ℕ → ℕ → Outcome Counted
+abbrev pub accepted_up_to : ℕ → Ring → ℕ → ℕ → Outcome (Answer ℕ)
 accepted_up_to bound r len k =
     cond (sound Out r len)
-    (cond (nat_le k bound) record { ring = advanced Out r k; answer = counted.Bytes k } (refused r (counted.Refused TooMuch)))
-    (refused r (counted.Refused BadState))
+    (cond (nat_le k bound) record { ring = advanced Out r k; answer = Ok k } (refused r (Err TooMuch)))
+    (refused r (Err BadState))
 
-unfoldable pub advance_of : Ring → ℕ → ℕ → Outcome Counted
+unfoldable pub advance_of : Ring → ℕ → ℕ → Outcome (Answer ℕ)
 advance_of r len k = accepted_up_to (available_in Out r) r len k
 
-unfoldable pub commit_of : Ring → ℕ → ℕ → Outcome Counted
+unfoldable pub commit_of : Ring → ℕ → ℕ → Outcome (Answer ℕ)
 commit_of r len k = accepted_up_to (offered r len) r len k

@@ -5,7 +5,7 @@ ghost use Rattle.tx_stream.specs.Faces.{filled_cells, filled_head};
 use crate::answer;
 use crate::answer::Accepting;
 use descriptors::record::TransferDirection;
-use descriptors::refusal::{Counted, DmaBufError};
+use descriptors::refusal::DmaBufError;
 use descriptors::ring::Head;
 use descriptors::walk;
 
@@ -35,6 +35,6 @@ pub(crate) fn accept_up_to(w: &mut [u16], h: Head, k: usize, bound: usize) -> Ac
     }
     Accepting {
         head: accept_in(w, h, k),
-        answer: Counted::Bytes(k),
+        answer: Ok(k),
     }
 }

@@ -2,27 +2,27 @@
 ghost use Rattle.std.specs.Prelude.{◌≡◌};
 ghost use Rattle.tx_stream.specs.Faces.{counted_of};
 
-use descriptors::refusal::{Counted, DmaBufError, Done};
+use descriptors::refusal::DmaBufError;
 use descriptors::ring::Head;
 
 #[derive(Clone, Copy)]
 pub struct Accepting {
     pub head: Head,
-    pub answer: Counted,
+    pub answer: Result<usize, DmaBufError>,
 }
 
 // What the judge said, as the answer of a call that counts bytes.
-pub(crate) fn counted(answer: Done) -> Counted
+pub(crate) fn counted(answer: Result<(), DmaBufError>) -> Result<usize, DmaBufError>
     ensures { result ≡ counted_of answer }
 {
     match answer {
-        Done::Ready => Counted::Bytes(0),
-        Done::Refused(e) => Counted::Refused(e),
+        Ok(()) => Ok(0),
+        Err(e) => Err(e),
     }
 }
 
 // What the judge refuses leaves the head as it is.
-pub(crate) fn refused(h: Head, answer: Done) -> Accepting
+pub(crate) fn refused(h: Head, answer: Result<(), DmaBufError>) -> Accepting
     ensures { result ≡ record { head = h; answer = counted_of answer } }
 {
     Accepting {
@@ -36,6 +36,6 @@ pub(crate) fn too_much(h: Head) -> Accepting
 {
     Accepting {
         head: h,
-        answer: Counted::Refused(DmaBufError::TooMuch),
+        answer: Err(DmaBufError::TooMuch),
     }
 }

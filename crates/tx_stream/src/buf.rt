@@ -11,7 +11,6 @@ use crate::view::DmaTxStreamBufView;
 use crate::{prefill, prepare};
 use descriptors::cells::CELLS;
 use descriptors::record::{LIMIT, TransferDirection};
-use descriptors::refusal::{Counted, Done};
 use descriptors::ring;
 use descriptors::ring::Head;
 
@@ -25,19 +24,19 @@ pub struct DmaTxStreamBuf {
 #[derive(Clone, Copy)]
 pub struct Built {
     pub ring: DmaTxStreamBuf,
-    pub answer: Done,
+    pub answer: Result<(), DmaBufError>,
 }
 
 #[derive(Clone, Copy)]
 pub struct Pushed {
     pub ring: DmaTxStreamBuf,
-    pub answer: Counted,
+    pub answer: Result<usize, DmaBufError>,
 }
 
 #[derive(Clone, Copy)]
 pub struct Prepared {
     pub ring: DmaTxStreamBuf,
-    pub answer: Done,
+    pub answer: Result<(), DmaBufError>,
 }
 
 // The words of the records, given back.
@@ -111,7 +110,7 @@ impl DmaTxStreamBuf {
         prefill::prefill_offer_in(&s, &w, h, buffer)
     }
 
-    pub fn offer_refusal(self, len: usize) -> Done
+    pub fn offer_refusal(self, len: usize) -> Result<(), DmaBufError>
         ensures { result ≡ prefill_offer_refusal_of (buf_ring self) len }
     {
         let s = self.starts;

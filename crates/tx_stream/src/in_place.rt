@@ -9,18 +9,17 @@ ghost use Rattle.tx_stream.specs.Faces.{accepting_of, offer_place};
 use crate::answer::Accepting;
 use crate::{accept, answer, copy, room};
 use descriptors::record::TransferDirection;
-use descriptors::refusal::{Counted, Done};
 use descriptors::ring;
 use descriptors::ring::Head;
 
-pub fn available_in<'a>(s: &'a [u32], w: &'a [u16], h: Head, len: usize) -> Counted
+pub fn available_in<'a>(s: &'a [u32], w: &'a [u16], h: Head, len: usize) -> Result<usize, DmaBufError>
     ensures { result ≡ available_of (ring_of s.now w.now h) len }
 {
     let answer = ring::judge(TransferDirection::Out, s, w, h, len);
-    let Done::Ready = answer else {
+    let Ok(()) = answer else {
         return answer::counted(answer);
     };
-    Counted::Bytes(room::available(w, h))
+    Ok(room::available(w, h))
 }
 
 pub fn push_in(s: &[u32], w: &mut [u16], h: Head, buffer: &mut [u8], data: &[u8]) -> Accepting
@@ -29,14 +28,14 @@ pub fn push_in(s: &[u32], w: &mut [u16], h: Head, buffer: &mut [u8], data: &[u8]
     ensures buffer_after { buffer.new ≡ push_into (ring_of s.now w.old h) buffer.old «data».now }
 {
     let answer = ring::judge(TransferDirection::Out, s, w, h, buffer.len());
-    let Done::Ready = answer else {
+    let Ok(()) = answer else {
         return answer::refused(h, answer);
     };
     let k = copy::least(data.len(), room::available(w, h));
     copy::copy_round(buffer, room::write_position(s, h), data, k);
     Accepting {
         head: accept::accept_in(w, h, k),
-        answer: Counted::Bytes(k),
+        answer: Ok(k),
     }
 }
 
@@ -47,7 +46,7 @@ pub fn offer_in<'a, 'b>(s: &'b [u32], w: &'b [u16], h: Head, buffer: &'a mut [u8
 {
     let len = buffer.len();
     let answer = ring::judge(TransferDirection::Out, s, w, h, len);
-    let Done::Ready = answer else {
+    let Ok(()) = answer else {
         return &mut buffer[..0];
     };
     let at = room::write_position(s, h);
@@ -55,7 +54,7 @@ pub fn offer_in<'a, 'b>(s: &'b [u32], w: &'b [u16], h: Head, buffer: &'a mut [u8
     &mut buffer[at..end]
 }
 
-pub fn offer_refusal_in<'a>(s: &'a [u32], w: &'a [u16], h: Head, len: usize) -> Done
+pub fn offer_refusal_in<'a>(s: &'a [u32], w: &'a [u16], h: Head, len: usize) -> Result<(), DmaBufError>
     ensures { result ≡ offer_refusal_of (ring_of s.now w.now h) len }
 {
     ring::judge(TransferDirection::Out, s, w, h, len)
@@ -67,7 +66,7 @@ pub fn commit_in(s: &[u32], w: &mut [u16], h: Head, len: usize, k: usize) -> Acc
     ensures value { result ≡ accepting_of (commit_of (ring_of s.now w.old h) len k) }
 {
     let answer = ring::judge(TransferDirection::Out, s, w, h, len);
-    let Done::Ready = answer else {
+    let Ok(()) = answer else {
         return answer::refused(h, answer);
     };
     let at = room::write_position(s, h);
@@ -81,7 +80,7 @@ pub fn advance_in(s: &[u32], w: &mut [u16], h: Head, len: usize, k: usize) -> Ac
     ensures value { result ≡ accepting_of (advance_of (ring_of s.now w.old h) len k) }
 {
     let answer = ring::judge(TransferDirection::Out, s, w, h, len);
-    let Done::Ready = answer else {
+    let Ok(()) = answer else {
         return answer::refused(h, answer);
     };
     let bound = room::available(w, h);

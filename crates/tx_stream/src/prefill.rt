@@ -7,7 +7,6 @@ ghost use Rattle.tx_stream.specs.Faces.{accepting_of, prefilled_head, prefill_pl
 
 use crate::answer::Accepting;
 use crate::{answer, copy};
-use descriptors::refusal::{Counted, Done};
 use descriptors::ring;
 use descriptors::ring::Head;
 
@@ -24,7 +23,7 @@ fn prefilled_by(h: Head, k: usize) -> Accepting
     };
     Accepting {
         head,
-        answer: Counted::Bytes(k),
+        answer: Ok(k),
     }
 }
 
@@ -40,7 +39,7 @@ pub fn prefill_in<'a>(
     ensures buffer_after { buffer.new ≡ prefill_into (ring_of s.now w.now h) buffer.old «data».now }
 {
     let answer = ring::judge_split(s, w, h, buffer.len());
-    let Done::Ready = answer else {
+    let Ok(()) = answer else {
         return answer::refused(h, answer);
     };
     let at = h.pre_filled;
@@ -60,14 +59,14 @@ pub fn prefill_offer_in<'a, 'b>(
     ensures ref_ptr_value { result.ref_ptr ≡ part_from (as_read buffer.entry) (prefill_place (ring_of s.now w.now h) buffer.old) }
 {
     let answer = ring::judge_split(s, w, h, buffer.len());
-    let Done::Ready = answer else {
+    let Ok(()) = answer else {
         return &mut buffer[..0];
     };
     let at = h.pre_filled;
     &mut buffer[at..]
 }
 
-pub fn prefill_offer_refusal_in<'a>(s: &'a [u32], w: &'a [u16], h: Head, len: usize) -> Done
+pub fn prefill_offer_refusal_in<'a>(s: &'a [u32], w: &'a [u16], h: Head, len: usize) -> Result<(), DmaBufError>
     ensures { result ≡ prefill_offer_refusal_of (ring_of s.now w.now h) len }
 {
     ring::judge_split(s, w, h, len)
@@ -77,7 +76,7 @@ pub fn prefill_commit_in<'a>(s: &'a [u32], w: &'a [u16], h: Head, len: usize, k:
     ensures { result ≡ accepting_of (prefill_commit_of (ring_of s.now w.now h) len k) }
 {
     let answer = ring::judge_split(s, w, h, len);
-    let Done::Ready = answer else {
+    let Ok(()) = answer else {
         return answer::refused(h, answer);
     };
     if len - h.pre_filled < k {

@@ -6,8 +6,7 @@ ghost use Rattle.descriptors.specs.Ring.{ring_of};
 ghost use Rattle.tx_stream.specs.Transmit.{reached, prepare_of};
 ghost use Rattle.tx_stream.specs.Faces.{headed_of, fill_cells, cut_cells, marked_cells, marked_cursor};
 
-use descriptors::record::{Next, Owner, TransferDirection};
-use descriptors::refusal::Done;
+use descriptors::record::{Owner, TransferDirection};
 use descriptors::ring::{Head, Headed};
 use descriptors::{cells, ring, walk};
 
@@ -59,7 +58,7 @@ fn terminate_tx_stream_at(w: &mut [u16], n: usize, start: usize)
     ensures { w.new ≡ up_to (cut_cells start) n w.old }
 {
     if 0 < start {
-        cells::set_next(w, start - 1, Next::Nothing);
+        cells::set_next(w, start - 1, None);
     }
     let mut i = start;
     while i < n {
@@ -98,7 +97,7 @@ pub fn prepare_in(s: &[u32], w: &mut [u16], h: Head, len: usize) -> Headed
     ensures value { result ≡ headed_of (prepare_of (ring_of s.now w.old h) len) }
 {
     let answer = ring::judge_split(s, w, h, len);
-    let Done::Ready = answer else {
+    let Ok(()) = answer else {
         return Headed { head: h, answer };
     };
     let n = h.count;
@@ -113,6 +112,6 @@ pub fn prepare_in(s: &[u32], w: &mut [u16], h: Head, len: usize) -> Headed
     };
     Headed {
         head,
-        answer: Done::Ready,
+        answer: Ok(()),
     }
 }

@@ -8,7 +8,6 @@ ghost use Rattle.tx_stream.specs.Values.{view_ring, advanced_of};
 use crate::in_place;
 use descriptors::cells::CELLS;
 use descriptors::record::LIMIT;
-use descriptors::refusal::{Counted, Done};
 use descriptors::ring::Head;
 
 // A view into a DmaTxStreamBuf.
@@ -22,12 +21,12 @@ pub struct DmaTxStreamBufView {
 #[derive(Clone, Copy)]
 pub struct Advanced {
     pub ring: DmaTxStreamBufView,
-    pub answer: Counted,
+    pub answer: Result<usize, DmaBufError>,
 }
 
 impl DmaTxStreamBufView {
     // The number of bytes available for writing.
-    pub fn available_bytes(self, len: usize) -> Counted
+    pub fn available_bytes(self, len: usize) -> Result<usize, DmaBufError>
         ensures { result ≡ available_of (view_ring self) len }
     {
         let s = self.starts;
@@ -68,7 +67,7 @@ impl DmaTxStreamBufView {
         in_place::offer_in(&s, &w, h, buffer)
     }
 
-    pub fn offer_refusal(self, len: usize) -> Done
+    pub fn offer_refusal(self, len: usize) -> Result<(), DmaBufError>
         ensures { result ≡ offer_refusal_of (view_ring self) len }
     {
         let s = self.starts;

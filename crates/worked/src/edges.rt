@@ -16,11 +16,11 @@ fn split(rt: &impl Print, n: usize, len: usize) -> io::Result<()> {
     say::number(rt, len)?;
     let parts = split::split_of(n, len);
     match parts {
-        Split::Parts { chunk, rest } => {
+        Ok(Split { chunk, rest }) => {
             say::number(rt, chunk)?;
             say::number(rt, rest)?;
         }
-        Split::Refused(e) => say::refused(rt, e)?,
+        Err(e) => say::refused(rt, e)?,
     }
     say::line(rt)
 }
@@ -52,12 +52,12 @@ fn cut_at(rt: &impl Print, address: u32, length: u32) -> io::Result<()> {
     say::number(rt, address as usize)?;
     say::number(rt, length as usize)?;
     match cut::cut(address, length, Chip::Ordinary) {
-        Cut::Parts { head, middle, tail } => {
+        Ok(Cut { head, middle, tail }) => {
             say::number(rt, head)?;
             say::number(rt, middle)?;
             say::number(rt, tail)?;
         }
-        Cut::Refused(e) => say::refused(rt, e)?,
+        Err(e) => say::refused(rt, e)?,
     }
     say::line(rt)
 }
@@ -78,11 +78,11 @@ fn pieces(rt: &impl Print, n: usize, address: u32, length: u32, store: usize) ->
         Chip::Ordinary,
         store,
     ) {
-        Listed::Bytes { covered, used } => {
+        Ok(Listed { covered, used }) => {
             say::number(rt, covered)?;
             say::number(rt, used)?;
         }
-        Listed::Refused(e) => say::refused(rt, e)?,
+        Err(e) => say::refused(rt, e)?,
     }
     say::line(rt)
 }

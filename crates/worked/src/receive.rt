@@ -1,10 +1,8 @@
 // "the device fills 01 02 03, then 04 05 with EOF .."
 use crate::say;
 use descriptors::cells;
-use descriptors::record::Next;
 use device::by_value::ReceivedStep;
 use device::{by_value, stand};
-use rx_stream::Ended;
 use rx_stream::buf::DmaRxStreamBuf;
 use rx_stream::view::{DmaRxStreamBufView, Popped};
 use std::io;
@@ -12,7 +10,7 @@ use std::io;
 fn fill(
     rt: &impl Print,
     ring: DmaRxStreamBufView,
-    device: Next,
+    device: Option<u16>,
     buffer: &mut [u8],
     incoming: &[u8],
     eof: bool,
@@ -44,14 +42,14 @@ fn looks(rt: &impl Print, ring: DmaRxStreamBufView, buffer: &[u8]) -> io::Result
     say::bytes(rt, b"peek_until_eof", ring.peek_until_eof(buffer))?;
     let ended = ring.peek_eof(buffer.len());
     match ended {
-        Ended::Eof(yes) => {
+        Ok(yes) => {
             if yes {
                 say::text(rt, b"yes\n")
             } else {
                 say::text(rt, b"no\n")
             }
         }
-        Ended::Refused(e) => {
+        Err(e) => {
             say::refused(rt, e)?;
             say::line(rt)
         }
@@ -91,7 +89,7 @@ pub fn run(rt: &impl Print) -> io::Result<()> {
 fn later(
     rt: &impl Print,
     ring: DmaRxStreamBufView,
-    device: Next,
+    device: Option<u16>,
     bytes: [u8; 14],
 ) -> io::Result<()> {
     let mut buffer = bytes;

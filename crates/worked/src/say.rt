@@ -1,7 +1,6 @@
 // Answers as text.
-use descriptors::record::Next;
 use descriptors::refusal;
-use descriptors::refusal::{Counted, DmaBufError, Done};
+use descriptors::refusal::DmaBufError;
 use descriptors::ring::Head;
 use std::io;
 
@@ -20,23 +19,23 @@ pub fn line(rt: &impl Print) -> io::Result<()> {
 
 pub fn refused(rt: &impl Print, e: DmaBufError) -> io::Result<()> {
     text(rt, b" refused")?;
-    number(rt, refusal::number(e) as usize)
+    number(rt, u8::from(e) as usize)
 }
 
-pub fn done(rt: &impl Print, name: &[u8], answer: Done) -> io::Result<()> {
+pub fn done(rt: &impl Print, name: &[u8], answer: Result<(), DmaBufError>) -> io::Result<()> {
     text(rt, name)?;
     match answer {
-        Done::Ready => text(rt, b" ok")?,
-        Done::Refused(e) => refused(rt, e)?,
+        Ok(()) => text(rt, b" ok")?,
+        Err(e) => refused(rt, e)?,
     }
     line(rt)
 }
 
-pub fn counted(rt: &impl Print, name: &[u8], answer: Counted) -> io::Result<()> {
+pub fn counted(rt: &impl Print, name: &[u8], answer: Result<usize, DmaBufError>) -> io::Result<()> {
     text(rt, name)?;
     match answer {
-        Counted::Bytes(k) => number(rt, k)?,
-        Counted::Refused(e) => refused(rt, e)?,
+        Ok(k) => number(rt, k)?,
+        Err(e) => refused(rt, e)?,
     }
     line(rt)
 }
@@ -64,8 +63,8 @@ pub fn bytes(rt: &impl Print, name: &[u8], part: &[u8]) -> io::Result<()> {
 }
 
 // The front of what a pop filled.
-pub fn front(rt: &impl Print, name: &[u8], part: &[u8], answer: Counted) -> io::Result<()> {
-    let Counted::Bytes(k) = answer else {
+pub fn front(rt: &impl Print, name: &[u8], part: &[u8], answer: Result<usize, DmaBufError>) -> io::Result<()> {
+    let Ok(k) = answer else {
         return counted(rt, name, answer);
     };
     first(rt, name, part, k)
@@ -78,11 +77,11 @@ pub fn cursor(rt: &impl Print, h: Head) -> io::Result<()> {
     line(rt)
 }
 
-pub fn next(rt: &impl Print, name: &[u8], next: Next) -> io::Result<()> {
+pub fn next(rt: &impl Print, name: &[u8], next: Option<u16>) -> io::Result<()> {
     text(rt, name)?;
     match next {
-        Next::Nothing => text(rt, b" none")?,
-        Next::At(i) => number(rt, i as usize)?,
+        None => text(rt, b" none")?,
+        Some(i) => number(rt, i as usize)?,
     }
     line(rt)
 }

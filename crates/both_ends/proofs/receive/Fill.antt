@@ -1,5 +1,5 @@
 -- The receive step of the device.
-use Rattle.std.specs.Prelude.{◌≡◌, refl, Bool, true, false, cond, ◌≢◌, List, [], ◌∷◌, ◌++◌, ℕ, suc, ◌+◌, ◌≤◌, ◌<◌, leb, ltb, length, take, drop}
+use Rattle.std.specs.Prelude.{◌≡◌, refl, Bool, true, false, cond, ◌≢◌, List, [], ◌∷◌, ◌++◌, ℕ, suc, ◌+◌, ◌≤◌, ◌<◌, leb, ltb, length, take, drop, Ok, Err, Some, None, Option}
 use Rattle.std.proofs.Common.{sym, ◌∙◌, subst, append_assoc, append-nil, arith, length-append, ltb-true, leb-true, lt-ltb}
 use Rattle.std.proofs.Math.Path.{ap}
 use Rattle.std.proofs.lemmas.List.{map-append, drop-append-le}
@@ -7,17 +7,11 @@ use Rattle.std.proofs.Math.Seq.{paste}
 use Rattle.std.proofs.lemmas.List.Edits.{length-paste}
 use Rattle.descriptors.specs.Record.{record_in, update, closed}
 use Rattle.descriptors.specs.Ring.{Ring, record_of, with_records, sound}
-use Rattle.descriptors.specs.declared.record.Next.{Next}
-use Rattle.descriptors.specs.declared.record.Next.TheVariants.{Nothing, At}
 use Rattle.descriptors.specs.declared.record.DmaDescriptor.{DmaDescriptor}
 use Rattle.descriptors.specs.declared.record.TransferDirection.TheVariants.{In}
 use Rattle.descriptors.specs.declared.refusal.DmaBufError.TheVariants.{BadState, BadStep, Stopped}
-use Rattle.descriptors.specs.declared.refusal.Done.{Done}
-use Rattle.descriptors.specs.declared.refusal.Done.TheVariants as done
 use Rattle.descriptors.specs.laws.Tests.{and_split}
 use Rattle.descriptors.specs.laws.Updates.{update_same, update_other}
-use Rattle.device.specs.declared.stand.Stand.{Stand}
-use Rattle.device.specs.declared.stand.Stand.TheVariants as stand
 use Rattle.device.specs.Device.{Stepped, stand_of, fits, receive_by, receive_of, receive_into_by, receive_into}
 use Rattle.ring_order.specs.Places.{turn}
 use Rattle.ring_order.specs.Lists.{paste-here, paste-far, Somes, somes-append}
@@ -30,6 +24,7 @@ use Rattle.ring_order.specs.Order.{Order, Head, head_at, head-stored, head-next,
 use Rattle.ring_order.specs.Skeleton.{steps}
 use Rattle.both_ends.specs.Demand3.{World, told_done, stands_on, stepped, rx_step, fill}
 use Rattle.both_ends.proofs.Shared.{alone}
+use Rattle.descriptors.specs.Refusal.{Answer}
 use Rattle.both_ends.proofs.receive.Good.{Good, Leads, good-sound, idle}
 
 -- a cell that was filled
@@ -69,14 +64,14 @@ module _ (n len : ℕ) (ds : List DmaDescriptor) (b : List ℕ) (c : ℕ) (s : S
 
 -- ---- the step, by what it finds
 
-abbrev fills_by : World → List ℕ → List ℕ → Stepped Done → World
+abbrev fills_by : World → List ℕ → List ℕ → Stepped (Answer Unit) → World
 fills_by w b bs s = stepped w s b (told_done s.answer bs) (told_done s.answer (stands_on w.device))
 
 module _ (w : World) (bs : List ℕ) (eof : Bool) where
-  abbrev filled_by : Stand → World
+  abbrev filled_by : Answer ℕ → World
   filled_by s = fills_by w (receive_into_by w.ring w.bytes bs s) bs (receive_by w.ring w.device (length bs) eof s)
 
-  step_by : (s : Stand) → stand_of In w.ring (length w.bytes) w.device ≡ s → rx_step w (fill bs eof) ≡ filled_by s
+  step_by : (s : Answer ℕ) → stand_of In w.ring (length w.bytes) w.device ≡ s → rx_step w (fill bs eof) ≡ filled_by s
   unfolding rx_step receive_of receive_into
   step_by s e = ap filled_by e
 
@@ -85,22 +80,22 @@ module _ (w : World) (bs : List ℕ) (eof : Bool) where
   on_record i t =
       fills_by w (cond t (paste w.bytes (record_of w.ring i).buffer bs (length bs)) w.bytes) bs
       (cond t
-      record { ring = with_records w.ring (update w.ring.descriptors i (closed (length bs) eof)); device = (record_of w.ring i).next; answer = done.Ready }
-      record { ring = w.ring; device = w.device; answer = done.Refused BadStep })
+      record { ring = with_records w.ring (update w.ring.descriptors i (closed (length bs) eof)); device = (record_of w.ring i).next; answer = Ok tt }
+      record { ring = w.ring; device = w.device; answer = Err BadStep })
 
-  pub stands-stopped : sound In w.ring (length w.bytes) ≡ true → w.device ≡ Nothing → stand_of In w.ring (length w.bytes) w.device ≡ stand.Refused Stopped
+  pub stands-stopped : sound In w.ring (length w.bytes) ≡ true → w.device ≡ None → stand_of In w.ring (length w.bytes) w.device ≡ Err Stopped
   stands-stopped h e =
-      ap (stand_of In w.ring (length w.bytes)) e ∙ ap (λ (t : Bool). cond t (stand.Refused Stopped) (stand.Refused BadState)) h
+      ap (stand_of In w.ring (length w.bytes)) e ∙ ap (λ (t : Bool). cond t (Err Stopped) (Err BadState)) h
 
-  stands_on_lem : (i : ℕ) → sound In w.ring (length w.bytes) ≡ true → w.device ≡ At i → i < w.ring.count → stand_of In w.ring (length w.bytes) w.device ≡ stand.On i
+  stands_on_lem : (i : ℕ) → sound In w.ring (length w.bytes) ≡ true → w.device ≡ Some i → i < w.ring.count → stand_of In w.ring (length w.bytes) w.device ≡ Ok i
   stands_on_lem i h e l = ap (stand_of In w.ring (length w.bytes)) e ∙ simp (h, lt-ltb i w.ring.count l)
 
-  pub step-stopped : sound In w.ring (length w.bytes) ≡ true → w.device ≡ Nothing → rx_step w (fill bs eof) ≡ w
-  step-stopped h e = step_by (stand.Refused Stopped) (stands-stopped h e) ∙ alone w
+  pub step-stopped : sound In w.ring (length w.bytes) ≡ true → w.device ≡ None → rx_step w (fill bs eof) ≡ w
+  step-stopped h e = step_by (Err Stopped) (stands-stopped h e) ∙ alone w
 
-  pub step-on : (i : ℕ) (t : Bool) → sound In w.ring (length w.bytes) ≡ true → w.device ≡ At i → i < w.ring.count → fits (length bs) (record_of w.ring i) ≡ t
+  pub step-on : (i : ℕ) (t : Bool) → sound In w.ring (length w.bytes) ≡ true → w.device ≡ Some i → i < w.ring.count → fits (length bs) (record_of w.ring i) ≡ t
       → rx_step w (fill bs eof) ≡ on_record i t
-  step-on i t h e l f = step_by (stand.On i) (stands_on_lem i h e l) ∙ ap (on_record i) f
+  step-on i t h e l f = step_by (Ok i) (stands_on_lem i h e l) ∙ ap (on_record i) f
 
 -- the bytes of a record that joins the run are unread behind the others
 unread-snoc : (o : ℕ) (xs : List Cell) (y : Cell) → o ≤ length (cat xs) → drop o (cat (xs ++ (y ∷ []))) ≡ drop o (cat xs) ++ y.held
@@ -108,7 +103,7 @@ unread-snoc o xs y h =
     ap (drop o) (cat-append xs (y ∷ []) ∙ ap (λ (l : List ℕ). cat xs ++ l) (append-nil y.held)) ∙ drop-append-le o (cat xs) y.held h
 
 -- THE QUEUE'S FIRST IS FILLED: it joins the run
-fill-order : (len : ℕ) (r : Ring) (b : List ℕ) (dev : Next) (t : ℕ) (front : List Cell) (x : Cell) (xs : List Cell) → Order In len r b dev t front (x ∷ xs) → (bs : List ℕ) (e : Bool)
+fill-order : (len : ℕ) (r : Ring) (b : List ℕ) (dev : Option ℕ) (t : ℕ) (front : List Cell) (x : Cell) (xs : List Cell) → Order In len r b dev t front (x ∷ xs) → (bs : List ℕ) (e : Bool)
     → length bs ≤ (record_of r x.idx).size
     → Order In len (with_records r (update r.descriptors x.idx (closed (length bs) e))) (paste b (record_of r x.idx).buffer bs (length bs)) (record_of r x.idx).next (suc t) (front ++ (fill_c x bs e ∷ [])) xs
 fill-order len r b dev t front x xs o bs e hb =
@@ -124,9 +119,9 @@ fill-order len r b dev t front x xs o bs e hb =
 ends-fill : (rc tk u v bs : List ℕ) → rc ≡ tk ++ u → v ≡ u ++ bs → rc ++ bs ≡ tk ++ v
 ends-fill rc tk u v bs e f = ap (λ (l : List ℕ). l ++ bs) e ∙ append_assoc tk u bs ∙ ap (λ (l : List ℕ). tk ++ l) (sym f)
 
-module _ (n len q : ℕ) (w : World) (bs : List ℕ) (eof : Bool) (g : Good n len q w) (i : ℕ) (d : w.device ≡ At i) where
+module _ (n len q : ℕ) (w : World) (bs : List ℕ) (eof : Bool) (g : Good n len q w) (i : ℕ) (d : w.device ≡ Some i) where
   on_one : w.visited ++ stands_on w.device ≡ w.visited ++ (i ∷ [])
-  on_one = ap (λ (x : Next). w.visited ++ stands_on x) d
+  on_one = ap (λ (x : Option ℕ). w.visited ++ stands_on x) d
 
   one_more : suc (length w.visited) ≡ length (w.visited ++ stands_on w.device)
   one_more = let z : suc (length w.visited) ≡ length w.visited + 1 = omega arith in z ∙ sym (ap length on_one ∙ length-append w.visited (i ∷ []))
@@ -149,7 +144,7 @@ module _ (n len q : ℕ) (w : World) (bs : List ℕ) (eof : Bool) (g : Good n le
               (unread-snoc w.ring.offset g.front y (inside-cat w.ring.offset g.front o.parted.offset));
           tally = g.tally;
         },
-        steps (d ∙ ap At it) (on_one ∙ ap (λ (j : ℕ). w.visited ++ (j ∷ [])) it) hq (λ e. first-none xs (sym next ∙ e)),
+        steps (d ∙ ap Some it) (on_one ∙ ap (λ (j : ℕ). w.visited ++ (j ∷ [])) it) hq (λ e. first-none xs (sym next ∙ e)),
       )
 
   fill-at : Head w.ring.count i (length w.visited) g.queue → 0 < length bs → length bs ≤ (record_of w.ring i).size → Leads n len q w (on_record w bs eof i true)
@@ -175,6 +170,6 @@ module _ (n len q : ℕ) (w : World) (bs : List ℕ) (eof : Bool) (g : Good n le
 pub fill-good : (n len q : ℕ) (w : World) → Good n len q w → (bs : List ℕ) (eof : Bool) → Leads n len q w (rx_step w (fill bs eof))
 fill-good n len q w g bs eof = go w.device refl
   where
-    go : (x : Next) → w.device ≡ x → Leads n len q w (rx_step w (fill bs eof))
-    go Nothing d = subst (Leads n len q w) (sym (step-stopped w bs eof (good-sound n len q w g) d)) (idle n len q w g)
-    go (At i) d = fill_on n len q w bs eof g i d
+    go : (x : Option ℕ) → w.device ≡ x → Leads n len q w (rx_step w (fill bs eof))
+    go None d = subst (Leads n len q w) (sym (step-stopped w bs eof (good-sound n len q w g) d)) (idle n len q w g)
+    go (Some i) d = fill_on n len q w bs eof g i d

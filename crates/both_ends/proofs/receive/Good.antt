@@ -1,5 +1,5 @@
 -- What holds of the world after every action: the ring in its order, every record of the run with a byte at least, and both ends.
-use Rattle.std.specs.Prelude.{◌≡◌, refl, Bool, true, List, ◌++◌, ℕ, ◌%◌, ◌^◌, length, drop}
+use Rattle.std.specs.Prelude.{◌≡◌, refl, Bool, true, List, ◌++◌, ℕ, ◌%◌, ◌^◌, length, drop, Ok, Err}
 use Rattle.std.proofs.Common.{sym, ◌∙◌, subst, arith}
 use Rattle.std.proofs.Math.Path.{ap}
 use Rattle.std.proofs.Math.Bool.{cond}
@@ -7,7 +7,6 @@ use Rattle.descriptors.specs.Ring.{sound}
 use Rattle.descriptors.specs.Walk.{standing, available_in}
 use Rattle.descriptors.specs.declared.record.TransferDirection.TheVariants.{In}
 use Rattle.descriptors.specs.declared.refusal.DmaBufError.TheVariants.{BadState}
-use Rattle.descriptors.specs.declared.refusal.Counted.TheVariants as counted
 use Rattle.rx_stream.specs.Receive.{available_of}
 use Rattle.ring_order.specs.Lists.{Somes}
 use Rattle.ring_order.specs.View.{Cell}
@@ -45,11 +44,11 @@ module _ (n len q : ℕ) (w : World) (g : Good n len q w) where
   pub good-ends : w.by_steps ≡ w.by_calls ++ standing In w.ring w.bytes
   good-ends = g.ends ∙ ap (λ (l : List ℕ). w.by_calls ++ l) (sym good-standing)
 
-  pub good-available : available_of w.ring (length w.bytes) ≡ counted.Bytes (length (standing In w.ring w.bytes))
+  pub good-available : available_of w.ring (length w.bytes) ≡ Ok (length (standing In w.ring w.bytes))
   unfolding available_of
   good-available =
-      ap (λ (t : Bool). cond t (counted.Bytes (available_in In w.ring)) (counted.Refused BadState)) good-sound
-      ∙ ap counted.Bytes (available-run In len w.ring w.bytes g.front g.queue g.order.parted)
+      ap (λ (t : Bool). cond t (Ok (available_in In w.ring)) (Err BadState)) good-sound
+      ∙ ap Ok (available-run In len w.ring w.bytes g.front g.queue g.order.parted)
 
   -- nothing happens
   pub idle : Leads n len q w w

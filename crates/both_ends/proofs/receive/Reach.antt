@@ -1,5 +1,5 @@
 -- What the links reach, and whose a record with unread bytes is.
-use Rattle.std.specs.Prelude.{◌≡◌, Bool, true, false, ◌⊎◌, ◌↔◌, eqb, drop}
+use Rattle.std.specs.Prelude.{◌≡◌, Bool, true, false, ◌⊎◌, ◌↔◌, eqb, drop, Some, Option}
 use Rattle.std.proofs.Math.Path.{refl, sym, ap, subst}
 use Rattle.std.proofs.Common.{◌∙◌, inl, inr, arith, eqb-true, length-drop}
 use Rattle.std.proofs.Math.Bool.{cond}
@@ -9,8 +9,6 @@ use Prim.Native.Nat.{ℕ, zero, suc, ◌≤◌, ◌<◌}
 use Rattle.std.proofs.Math.ListN.{length}
 use Rattle.descriptors.specs.Ring.{Ring, record_of}
 use Rattle.descriptors.specs.declared.record.Owner.TheVariants.{Cpu, Dma}
-use Rattle.descriptors.specs.declared.record.Next.{Next}
-use Rattle.descriptors.specs.declared.record.Next.TheVariants.{At}
 use Rattle.descriptors.specs.declared.record.TransferDirection.TheVariants.{In}
 use Rattle.ring_order.specs.Tests.{cpu-test, dma-test}
 use Rattle.ring_order.specs.Lists.{Somes}
@@ -48,11 +46,11 @@ module _ (r : Ring) (b : List ℕ) (hc : r.idx < r.count) where
       let o : (record_of r y.idx).next ≡ first (idxs ys) = ap (λ (c : Cell). c.desc.next) (sym (own In r.count r.descriptors b r.idx hc p ys y v).1) ∙ l.1 in
       ap (λ (t : List ℕ). y.idx ∷ t) (ap (reached r k) o ∙ reach-from k (p ++ (y ∷ [])) ys (v ∙ sym (append_assoc p (y ∷ []) ys)) l.2 (omega arith))
 
-stands-first : (d : Next) (is : List ℕ) → Stands d is → (i : ℕ) → d ≡ At i → d ≡ first is
+stands-first : (d : Option ℕ) (is : List ℕ) → Stands d is → (i : ℕ) → d ≡ Some i → d ≡ first is
 stands-first d is (inl e) i q = absurd (stopped-not d i q e)
 stands-first d is (inr e) i q = e
 
-reach-queue : (len : ℕ) (r : Ring) (b : List ℕ) (dev : Next) (t : ℕ) (front queue : List Cell) → Order In len r b dev t front queue → (i : ℕ) → dev ≡ At i → reached r r.count dev ≡ idxs queue
+reach-queue : (len : ℕ) (r : Ring) (b : List ℕ) (dev : Option ℕ) (t : ℕ) (front queue : List Cell) → Order In len r b dev t front queue → (i : ℕ) → dev ≡ Some i → reached r r.count dev ≡ idxs queue
 reach-queue len r b dev t front queue o i d =
     ap (reached r r.count) (stands-first dev (idxs queue) o.stands i d)
     ∙ reach-from r b o.parted.stored.cursor r.count front queue o.parted.seen o.parted.linked
@@ -69,7 +67,7 @@ filled_at [] x d f = f.0
 filled_at (y ∷ a) x d f = filled_at a x d f.1
 
 -- the offset is inside the cursor's record, if that is in the run
-pub inside-cursor : (len : ℕ) (r : Ring) (b : List ℕ) (dev : Next) (t : ℕ) (front queue : List Cell) → Order In len r b dev t front queue → Somes (helds front) → (j : ℕ) → Among j (idxs front)
+pub inside-cursor : (len : ℕ) (r : Ring) (b : List ℕ) (dev : Option ℕ) (t : ℕ) (front queue : List Cell) → Order In len r b dev t front queue → Somes (helds front) → (j : ℕ) → Among j (idxs front)
     → r.offset < length (held_by In b (record_of r r.idx))
 inside-cursor len r b dev t [] queue o f j h = absurd h
 inside-cursor len r b dev t (x ∷ front) queue o f j h =
@@ -127,7 +125,7 @@ module _ (n len q : ℕ) (w : World) (g : Good n len q w) (j : ℕ) (hj : j < n)
   none-dma (free c h) e = c
 
 -- REACH
-pub reach-exact : (n len q : ℕ) (w : World) → Good n len q w → (i : ℕ) → w.device ≡ At i → (j : ℕ) → Memᴰ j (reached w.ring n w.device) ↔ ((j < n) × (unread_at w j ≡ []))
+pub reach-exact : (n len q : ℕ) (w : World) → Good n len q w → (i : ℕ) → w.device ≡ Some i → (j : ℕ) → Memᴰ j (reached w.ring n w.device) ↔ ((j < n) × (unread_at w j ≡ []))
 reach-exact n len q w g i d j =
     let t : ℕ = length w.visited in
     let e : reached w.ring n w.device ≡ idxs g.queue =

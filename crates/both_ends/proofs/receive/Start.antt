@@ -1,14 +1,12 @@
 -- A ring that was built and prepared: every record is queued, in order.
-use Rattle.std.specs.Prelude.{◌≡◌, refl, true, List, [], ℕ, zero, suc, ◌^◌, ◌<◌, length}
+use Rattle.std.specs.Prelude.{◌≡◌, refl, true, List, [], ℕ, zero, suc, ◌^◌, ◌<◌, length, Ok, Some}
 use Rattle.std.proofs.Common.{sym, ◌∙◌, ap, subst, inr, arith}
 use Rattle.std.proofs.Math.Nat.{zero-mod}
 use Rattle.descriptors.specs.Record.{record_in}
 use Rattle.descriptors.specs.Split.{laid_out}
 use Rattle.descriptors.specs.Ring.{Ring, fresh, new_of, split_sound, linked_all}
-use Rattle.descriptors.specs.declared.record.Next.TheVariants.{At}
 use Rattle.descriptors.specs.declared.record.DmaDescriptor.{DmaDescriptor}
 use Rattle.descriptors.specs.declared.record.TransferDirection.TheVariants.{In}
-use Rattle.descriptors.specs.declared.refusal.Done.TheVariants as done
 use Rattle.rx_stream.specs.Receive.{prepared_ring, prepare_of}
 use Rattle.ring_order.specs.Places.{place, place-zero, turn}
 use Rattle.ring_order.specs.Lists.{tab}
@@ -35,7 +33,7 @@ prepared-shape n len ds l = shape-keeps n len ds (linked_all In n ds) l (linked-
     go : (i : ℕ) → i < n → Fits n (record_in ds i) (record_in (linked_all In n ds) i)
     go i h = subst (Fits n (record_in ds i)) (sym (linked-record In n ds l.enough i h)) record { start = refl; room = refl; length = omega arith; next = following-below n i h }
 
-first-tab : (n : ℕ) (f : ℕ → Cell) → 0 < n → first (idxs (tab n f)) ≡ At (f 0).idx
+first-tab : (n : ℕ) (f : ℕ → Cell) → 0 < n → first (idxs (tab n f)) ≡ Some (f 0).idx
 first-tab zero f h = absurd (omega arith)
 first-tab (suc n) f h = refl
 
@@ -44,7 +42,7 @@ unfolding turn
 turn-none n h = place-zero n 0 h
 
 prepared-order : (r : Ring) (len : ℕ) (b : List ℕ) → length b ≡ len → split_sound r len ≡ true
-    → Order In len (prepared_ring r) b (At 0) 0 [] (view In r.count (linked_all In r.count r.descriptors) b 0)
+    → Order In len (prepared_ring r) b (Some 0) 0 [] (view In r.count (linked_all In r.count r.descriptors) b 0)
 prepared-order r len b e h =
     let (l, p) = laid_of r len h in
     let n : ℕ = r.count in
@@ -70,9 +68,9 @@ module _ (ds : List DmaDescriptor) (n : ℕ) (bytes : List ℕ) where
   made = (new_of In ds n (length bytes)).ring
 
   abbrev world_of : Ring → World
-  world_of r = world r bytes (At 0) [] [] []
+  world_of r = world r bytes (Some 0) [] [] []
 
-  pub start-good : (new_of In ds n (length bytes)).answer ≡ done.Ready → (q : ℕ) × Good n (length bytes) q (prepared prepare_of (built In ds n bytes))
+  pub start-good : (new_of In ds n (length bytes)).answer ≡ (Ok tt) → (q : ℕ) × Good n (length bytes) q (prepared prepare_of (built In ds n bytes))
   start-good new =
       let h = new_split In ds n (length bytes) new in
       let e = prepare-ring made (length bytes) h in

@@ -1,5 +1,5 @@
 -- Consume and pop.
-use Rattle.std.specs.Prelude.{◌≡◌, Bool, true, false, cond, drop}
+use Rattle.std.specs.Prelude.{◌≡◌, Bool, true, false, cond, drop, Ok, Err}
 use Rattle.std.proofs.Math.Path.{refl, ap, subst}
 use Rattle.std.proofs.Common.{sym, ◌∙◌, arith, length-append, length-take, take-append-drop, length-take-le, take-take}
 use mathlib.Core.List.{List, [], ◌++◌, append_assoc, append-nil, map-append}
@@ -10,8 +10,6 @@ use Rattle.descriptors.specs.Ring.{Ring, refused}
 use Rattle.descriptors.specs.Walk.{standing, planned, moved_to, advanced, taken_in}
 use Rattle.descriptors.specs.declared.record.TransferDirection.TheVariants.{In}
 use Rattle.descriptors.specs.declared.refusal.DmaBufError.TheVariants.{BadState}
-use Rattle.descriptors.specs.declared.refusal.Counted.TheVariants as counted
-use Rattle.rx_stream.specs.declared.Took.TheVariants as took
 use Rattle.rx_stream.specs.Receive.{consume_of, pop_of, popped_over, over}
 use Rattle.rx_stream.specs.Receive as receive
 use Rattle.ring_order.specs.Lists.{Somes, somes-rest}
@@ -74,7 +72,7 @@ module _ (n len q : ℕ) (w : World) (g : Good n len q w) where
   abbrev consumed : ℕ → Bool → World
   consumed k t =
       let r : Ring = w.ring in
-      let o = cond t record { ring = advanced In r k; answer = took.Bytes (taken_in In r k) (planned In r k).back } (refused r (took.Refused BadState)) in
+      let o = cond t record { ring = advanced In r k; answer = Ok (record { taken = taken_in In r k; back = (planned In r k).back }) } (refused r (Err BadState)) in
       takes w o.ring (told_took o.answer (standing In r w.bytes))
 
   pub consume-good : (k : ℕ) → Leads n len q w (rx_step w (consume k))
@@ -86,8 +84,8 @@ module _ (n len q : ℕ) (w : World) (g : Good n len q w) where
       let r : Ring = w.ring in
       let k : ℕ = length d in
       let o =
-      cond t (cond i record { ring = r; answer = counted.Bytes 0 } record { ring = advanced In r k; answer = counted.Bytes (taken_in In r k) })
-      (refused r (counted.Refused BadState)) in
+      cond t (cond i record { ring = r; answer = Ok 0 } record { ring = advanced In r k; answer = Ok (taken_in In r k) })
+      (refused r (Err BadState)) in
       takes w o.ring (told o.answer (cond t (cond i d (over (standing In r w.bytes) d)) d))
 
   pop-by : (d : List ℕ) (i : Bool) → Leads n len q w (popped d true i)

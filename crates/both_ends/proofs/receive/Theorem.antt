@@ -1,5 +1,5 @@
 -- DEMAND 3, receive, proved: clause by clause, and all together.
-use Rattle.std.specs.Prelude.{◌≡◌, Bool, ◌⊎◌, ◌↔◌, List, [], ◌∷◌, ◌++◌, ℕ, ◌+◌, ◌≤◌, ◌<◌, length, take, drop}
+use Rattle.std.specs.Prelude.{◌≡◌, Bool, ◌⊎◌, ◌↔◌, List, [], ◌∷◌, ◌++◌, ℕ, ◌+◌, ◌≤◌, ◌<◌, length, take, drop, Ok, Err, Some, None, Option}
 use Rattle.std.proofs.Math.Path.{refl}
 use Rattle.std.proofs.Common.{sym, ◌∙◌, ap, subst, inl, inr, take_all}
 use native.Mathlib.Omega.{arith}
@@ -9,14 +9,10 @@ use Rattle.std.proofs.Math.Seq.{drop-nil}
 use Rattle.descriptors.specs.Ring.{Ring, record_of, new_of}
 use Rattle.descriptors.specs.Walk.{standing}
 use Rattle.descriptors.specs.declared.record.Owner.TheVariants.{Cpu, Dma}
-use Rattle.descriptors.specs.declared.record.Next.{Next}
-use Rattle.descriptors.specs.declared.record.Next.TheVariants.{Nothing, At}
 use Rattle.descriptors.specs.declared.record.DmaDescriptor.{DmaDescriptor}
 use Rattle.descriptors.specs.declared.record.TransferDirection.TheVariants.{In}
 use Rattle.descriptors.specs.declared.refusal.DmaBufError.TheVariants.{Stopped}
-use Rattle.descriptors.specs.declared.refusal.Done.TheVariants as done
 use Rattle.rx_stream.specs.Receive.{prepare_of, peek_of}
-use Rattle.device.specs.declared.stand.Stand.{Stand}
 use Rattle.device.specs.Device.{receive_by, receive_of}
 use Rattle.ring_order.specs.Places.{turn}
 use Rattle.ring_order.specs.Lists.{Somes}
@@ -32,6 +28,7 @@ use Rattle.both_ends.proofs.receive.Take.{consume-good, pop-good}
 use Rattle.both_ends.proofs.receive.Fill.{fill-good, stands-stopped, step-stopped}
 use Rattle.both_ends.specs.receive.Peek.{peek-front, peek-some}
 use Rattle.both_ends.proofs.receive.Start.{start-good}
+use Rattle.descriptors.specs.Refusal.{Answer}
 use Rattle.both_ends.proofs.receive.Reach.{mem-of, inside-cursor, Holds, unread, free, bridge, reach-exact}
 
 -- every action leads from a good world to a good one, by one of the two moves
@@ -59,14 +56,14 @@ peek-shows n len q w g u h = at-cursor n len q w g u g.front g.order g.some (sub
 
 -- ---- the stop
 
-same-record : (d : Next) (i j : ℕ) → d ≡ At i → d ≡ At j → j ≡ i
+same-record : (d : Option ℕ) (i j : ℕ) → d ≡ Some i → d ≡ Some j → j ≡ i
 same-record d i j e f = cc
 
-stopped-at : (d : Next) (is : List ℕ) → Stands d is → first is ≡ Nothing → d ≡ Nothing
+stopped-at : (d : Option ℕ) (is : List ℕ) → Stands d is → first is ≡ None → d ≡ None
 stopped-at d is (inl e) f = e
 stopped-at d is (inr e) f = e ∙ f
 
-empty-first : (xs : List Cell) → length xs ≡ 0 → first (idxs xs) ≡ Nothing
+empty-first : (xs : List Cell) → length xs ≡ 0 → first (idxs xs) ≡ None
 empty-first [] e = refl
 empty-first (x ∷ xs) e = absurd (omega arith)
 
@@ -83,7 +80,7 @@ module _ (n len q : ℕ) (w : World) (g : Good n len q w) where
       go (unread c l) = l
       go (free c l) = absurd (cpu-not-dma (record_of w.ring j).owner cpu c)
 
-  all_hold : ((j : ℕ) → j < n → 0 < length (unread_at w j)) → w.device ≡ Nothing
+  all_hold : ((j : ℕ) → j < n → 0 < length (unread_at w j)) → w.device ≡ None
   all_hold f =
       stopped-at w.device (idxs g.queue) g.order.stands
       ((none-queued In len w.ring w.bytes w.device (length w.visited) g.front g.queue g.order).1
@@ -94,8 +91,8 @@ module _ (n len q : ℕ) (w : World) (g : Good n len q w) where
       cpu j (free c l) h = absurd (omega (arith, ap length l))
 
 -- STOP
-stop-by : (n len q p i : ℕ) (w v : World) → w.device ≡ At i → Good n len p v → Move n q w.device w.visited p v.device v.visited
-    → (v.device ≡ Nothing) ↔ ((v.visited ≡ w.visited ++ (i ∷ [])) × ((j : ℕ) → j < n → 0 < length (unread_at v j)))
+stop-by : (n len q p i : ℕ) (w v : World) → w.device ≡ Some i → Good n len p v → Move n q w.device w.visited p v.device v.visited
+    → (v.device ≡ None) ↔ ((v.visited ≡ w.visited ++ (i ∷ [])) × ((j : ℕ) → j < n → 0 < length (unread_at v j)))
 stop-by n len q p i w v d g (steps s e f h) =
     let k : turn n (length w.visited) ≡ i = same-record w.device i (turn n (length w.visited)) d s in
     (λ x. (e ∙ ap (λ (j : ℕ). w.visited ++ (j ∷ [])) k, holds-all n len p v g (h x)), λ x. all_hold n len p v g x.1)
@@ -106,12 +103,12 @@ stop-by n len q p i w v d g (gives e f h) = (
 
 -- ---- a stopped device receives nothing, and calls only add to what was taken
 
-refusal-7 : (n len q : ℕ) (w : World) → Good n len q w → w.device ≡ Nothing → (bs : List ℕ) (eof : Bool)
-    → (receive_of w.ring w.device (length w.bytes) (length bs) eof).answer ≡ done.Refused Stopped
+refusal-7 : (n len q : ℕ) (w : World) → Good n len q w → w.device ≡ None → (bs : List ℕ) (eof : Bool)
+    → (receive_of w.ring w.device (length w.bytes) (length bs) eof).answer ≡ Err Stopped
 unfolding receive_of
-refusal-7 n len q w g d bs eof = ap (λ (s : Stand). (receive_by w.ring w.device (length bs) eof s).answer) (stands-stopped w bs eof (good-sound n len q w g) d)
+refusal-7 n len q w g d bs eof = ap (λ (s : Answer ℕ). (receive_by w.ring w.device (length bs) eof s).answer) (stands-stopped w bs eof (good-sound n len q w g) d)
 
-received-still : (n len q : ℕ) (w : World) → Good n len q w → w.device ≡ Nothing → (a : RxAction) → (rx_step w a).by_steps ≡ w.by_steps
+received-still : (n len q : ℕ) (w : World) → Good n len q w → w.device ≡ None → (a : RxAction) → (rx_step w a).by_steps ≡ w.by_steps
 received-still n len q w g d (rx_look l) = unfold rx_step in refl
 received-still n len q w g d (consume k) = unfold rx_step in refl
 received-still n len q w g d (pop b) = unfold rx_step in refl
@@ -139,7 +136,7 @@ module _ (n len : ℕ) (hn : 0 < n) where
 
   module _ (q : ℕ) (w : World) (g : Good n len q w) (turns : InTurn n w.visited) where
     -- WITHIN N, and not after a stop
-    soon : (i : ℕ) → w.device ≡ At i → (j : ℕ) → j < n → (record_of w.ring j).owner ≡ Dma → (more : List RxAction) → (n ≤ length (fills w more)) ⊎ ((run rx_step w more).device ≡ Nothing)
+    soon : (i : ℕ) → w.device ≡ Some i → (j : ℕ) → j < n → (record_of w.ring j).owner ≡ Dma → (more : List RxAction) → (n ≤ length (fills w more)) ⊎ ((run rx_step w more).device ≡ None)
         → Among j (take n (fills w more))
     soon i d j h o more (inl l) = within-n (life keeps) q w g turns more j h l
     soon i d j h o more (inr s) = go (dec_le n (length (fills w more)))
@@ -175,7 +172,7 @@ some-records n len q w g =
     omega (arith, g.count, (ground In w.ring.count len w.ring.descriptors w.bytes w.ring.idx s).many)
 
 -- RECEIVE
-pub receive-holds : (ds : List DmaDescriptor) (n : ℕ) (bytes : List ℕ) → (new_of In ds n (length bytes)).answer ≡ done.Ready
+pub receive-holds : (ds : List DmaDescriptor) (n : ℕ) (bytes : List ℕ) → (new_of In ds n (length bytes)).answer ≡ (Ok tt)
     → (acts : List RxAction) → Receive n (run rx_step (prepared prepare_of (built In ds n bytes)) acts)
 receive-holds ds n bytes new acts =
     let len : ℕ = length bytes in

@@ -1,6 +1,6 @@
 -- "Advance and commit accept the bytes then standing there": on every sound ring, whatever its owners, what goes out afterwards is what
 -- went out before, followed by those bytes; the ring stays sound; a record that is partly filled waits as it was.
-use Rattle.std.specs.Prelude.{◌≡◌, Bool, true, false, cond, ℕ, ◌+◌, ◌-◌, ◌%◌, ◌^◌, ◌≤◌, ◌<◌, length, take, drop}
+use Rattle.std.specs.Prelude.{◌≡◌, Bool, true, false, cond, ℕ, ◌+◌, ◌-◌, ◌%◌, ◌^◌, ◌≤◌, ◌<◌, length, take, drop, None}
 use Rattle.std.proofs.Math.Path.{refl, ap, subst}
 use Rattle.std.proofs.Common.{sym, ◌∙◌, inl, inr, arith, take-add}
 use mathlib.Core.List.{List, [], ◌∷◌, ◌++◌, append_assoc, map}
@@ -11,7 +11,6 @@ use Rattle.descriptors.specs.Place.{turns}
 use Rattle.descriptors.specs.Ring.{Ring, record_of, sound}
 use Rattle.descriptors.specs.Walk.{available_in, standing, hand_over, begun, planned, moved_to, advanced}
 use Rattle.descriptors.specs.declared.record.Owner.TheVariants.{Cpu}
-use Rattle.descriptors.specs.declared.record.Next.TheVariants.{Nothing}
 use Rattle.descriptors.specs.declared.record.DmaDescriptor.{DmaDescriptor}
 use Rattle.descriptors.specs.declared.record.TransferDirection.TheVariants.{Out}
 use Rattle.descriptors.specs.declared.walk.Moved.{Moved}
@@ -141,7 +140,7 @@ module _ (r : Ring) (b : List ℕ) (s : Sound Out r (length b)) (k : ℕ) (h : k
 
   waits-at : (xs vs : List Cell) → Halts Out plan.offset plan.rest xs → seen r b s ≡ used ++ xs → view Out r.count (advanced Out r k).descriptors b (advanced Out r k).idx ≡ vs
       → bares vs ≡ bares (xs ++ map (hand_c Out b) used) → 0 < plan.offset
-      → ((record_of r (advanced Out r k).idx).owner ≡ Cpu) × (with_next Nothing (record_in (advanced Out r k).descriptors (advanced Out r k).idx) ≡ with_next Nothing (record_of r (advanced Out r k).idx))
+      → ((record_of r (advanced Out r k).idx).owner ≡ Cpu) × (with_next None (record_in (advanced Out r k).descriptors (advanced Out r k).idx) ≡ with_next None (record_of r (advanced Out r k).idx))
   waits-at [] vs z v w e l = absurd (omega arith)
   waits-at (y ∷ ys) [] z v w e l = absurd (view-some Out r.count (advanced Out r k).descriptors b (advanced Out r k).idx shown.stored.cursor w)
   waits-at (y ∷ ys) (x ∷ vs) (inr (d, z)) v w e l = absurd (omega arith)
@@ -152,10 +151,10 @@ module _ (r : Ring) (b : List ℕ) (s : Sound Out r (length b)) (k : ℕ) (h : k
       let m : y.idx ≡ (advanced Out r k).idx = ap (λ (t : Cell). t.idx) (sym p) ∙ ap (λ (t : Cell). t.idx) i in
       let n : y.desc ≡ record_of r (advanced Out r k).idx = ap (λ (t : Cell). t.desc) j ∙ ap (record_of r) m in (
         ap (λ (t : DmaDescriptor). t.owner) (sym n) ∙ c,
-        ap (λ (t : Cell). with_next Nothing t.desc) (sym i) ∙ ap (λ (t : Cell). t.desc) p ∙ ap (with_next Nothing) n,
+        ap (λ (t : Cell). with_next None t.desc) (sym i) ∙ ap (λ (t : Cell). t.desc) p ∙ ap (with_next None) n,
       )
 
   pub advanced-waits : 0 < (advanced Out r k).offset
-      → ((record_of r (advanced Out r k).idx).owner ≡ Cpu) × (with_next Nothing (record_of (advanced Out r k) (advanced Out r k).idx) ≡ with_next Nothing (record_of r (advanced Out r k).idx))
+      → ((record_of r (advanced Out r k).idx).owner ≡ Cpu) × (with_next None (record_of (advanced Out r k) (advanced Out r k).idx) ≡ with_next None (record_of r (advanced Out r k).idx))
   unfolding moved_to
   advanced-waits l = waits-at left (view Out r.count (advanced Out r k).descriptors b (advanced Out r k).idx) walked.halts walked.parts refl shown.seen l

@@ -1,5 +1,5 @@
 -- The laws of push, advance, commit and the offered part, on every sound ring, whatever its owners.
-use Rattle.std.specs.Prelude.{◌≡◌, Bool, true, List, [], ◌++◌, ℕ, ◌+◌, ◌-◌, ◌≤◌, min, leb, take, drop}
+use Rattle.std.specs.Prelude.{◌≡◌, Bool, true, List, [], ◌++◌, ℕ, ◌+◌, ◌-◌, ◌≤◌, min, leb, take, drop, Ok, Err}
 use Rattle.std.proofs.Common.{sym, ◌∙◌, subst, add-zero, zero-add, arith, length-take, length-drop, length-take-le}
 use Rattle.std.proofs.Math.Path.{ap}
 use Rattle.std.proofs.Math.Bool.{cond}
@@ -9,7 +9,6 @@ use Rattle.descriptors.specs.Ring.{Ring, refused, sound}
 use Rattle.descriptors.specs.Walk.{available_in, standing, advanced}
 use Rattle.descriptors.specs.declared.record.TransferDirection.TheVariants.{Out}
 use Rattle.descriptors.specs.declared.refusal.DmaBufError.TheVariants.{BadState, TooMuch}
-use Rattle.descriptors.specs.declared.refusal.Counted.TheVariants as counted
 use Rattle.ring_order.specs.Shape.{Sound, of-sound}
 use Rattle.tx_stream.specs.Transmit.{paste_round, write_at, offered, offer_of, push_of, push_into, accepted_up_to}
 use Rattle.both_ends.specs.Demand3.{queued_in, pending_in}
@@ -33,10 +32,10 @@ module _ (r : Ring) (b : List ℕ) (s : Sound Out r (length b)) where
   -- ---- advance and commit; 8: "advance above available; commit above the length of the part then on offer"
 
   pub accepted-up-to : (bound k : ℕ) (t : Bool) → leb k bound ≡ t
-      → accepted_up_to bound r (length b) k ≡ cond t record { ring = advanced Out r k; answer = counted.Bytes k } (refused r (counted.Refused TooMuch))
+      → accepted_up_to bound r (length b) k ≡ cond t record { ring = advanced Out r k; answer = Ok k } (refused r (Err TooMuch))
   accepted-up-to bound k t e =
-      ap (λ (c : Bool). cond c (cond (leb k bound) record { ring = advanced Out r k; answer = counted.Bytes k } (refused r (counted.Refused TooMuch))) (refused r (counted.Refused BadState))) passes
-      ∙ ap (λ (c : Bool). cond c record { ring = advanced Out r k; answer = counted.Bytes k } (refused r (counted.Refused TooMuch))) e
+      ap (λ (c : Bool). cond c (cond (leb k bound) record { ring = advanced Out r k; answer = Ok k } (refused r (Err TooMuch))) (refused r (Err BadState))) passes
+      ∙ ap (λ (c : Bool). cond c record { ring = advanced Out r k; answer = Ok k } (refused r (Err TooMuch))) e
 
   -- ---- bytes written behind the cursor, no further than what is available
 
@@ -74,9 +73,9 @@ module _ (r : Ring) (b : List ℕ) (s : Sound Out r (length b)) where
     many = min (length bs) (available_in Out r)
 
     -- "`push` accepts min(data, available)"
-    pub push-is : push_of r (length b) (length bs) ≡ record { ring = advanced Out r many; answer = counted.Bytes many }
+    pub push-is : push_of r (length b) (length bs) ≡ record { ring = advanced Out r many; answer = Ok many }
     unfolding push_of
-    push-is = ap (λ (t : Bool). cond t record { ring = advanced Out r many; answer = counted.Bytes many } (refused r (counted.Refused BadState))) passes
+    push-is = ap (λ (t : Bool). cond t record { ring = advanced Out r many; answer = Ok many } (refused r (Err BadState))) passes
 
     pub push-into : push_into r b bs ≡ paste_round b (write_at r) (take many bs)
     unfolding push_into

@@ -1,5 +1,5 @@
 -- Before `prepare`: what was accepted stands at the buffer's front, and is as much as the prefilled count says.
-use Rattle.std.specs.Prelude.{◌≡◌, Bool, true, false, cond, leb, eqb, take, drop}
+use Rattle.std.specs.Prelude.{◌≡◌, Bool, true, false, cond, leb, eqb, take, drop, Ok, Err, Some}
 use Rattle.std.proofs.Math.Path.{refl, ap, subst}
 use Rattle.std.proofs.Common.{sym, ◌∙◌, inl, arith, leb-true, length-append, take-add, length-take-le}
 use mathlib.Core.List.{List, [], ◌∷◌, ◌++◌, append-nil, foldl}
@@ -11,14 +11,10 @@ use Rattle.std.proofs.lemmas.List.Edits.{length-paste, take-paste}
 use Rattle.descriptors.specs.Record.{record_in}
 use Rattle.descriptors.specs.Split.{size_of, laid, laid_out}
 use Rattle.descriptors.specs.Ring.{Ring, Outcome, refused, record_of, split_sound, fresh, new_of}
-use Rattle.descriptors.specs.declared.record.Next.TheVariants.{At}
 use Rattle.descriptors.specs.declared.record.DmaDescriptor.{DmaDescriptor}
 use Rattle.descriptors.specs.declared.record.TransferDirection.TheVariants.{Out}
 use Rattle.descriptors.specs.declared.refusal.DmaBufError.{DmaBufError}
 use Rattle.descriptors.specs.declared.refusal.DmaBufError.TheVariants.{BadState, TooMuch}
-use Rattle.descriptors.specs.declared.refusal.Counted.{Counted}
-use Rattle.descriptors.specs.declared.refusal.Counted.TheVariants as counted
-use Rattle.descriptors.specs.declared.refusal.Done.TheVariants as done
 use Rattle.ring_order.specs.Lists.{paste-far}
 use Rattle.descriptors.specs.laws.Updates.{each-length, each_at}
 use Rattle.ring_order.specs.Begin.{new-ready}
@@ -26,6 +22,7 @@ use Rattle.ring_order.specs.Shape.{Laid, laid_of, of-laid}
 use Rattle.tx_stream.specs.Transmit.{prefilled_by, prefill_of, prefill_into, prefill_offer_of, prefill_commit_of}
 use Rattle.ring_order.specs.Tally.{goes-round}
 use Rattle.both_ends.specs.Demand3.{World, world, told, called, writes, run, built, Prefill, pre_push, pre_write, pre_commit, prefill}
+use Rattle.descriptors.specs.Refusal.{Answer}
 use Rattle.both_ends.proofs.Shared.{with_bytes}
 
 -- the tally after m bytes more
@@ -63,7 +60,7 @@ module _ (n : ℕ) where
   -- m bytes more of bs, which stand behind the prefilled ones in b'
   more : (w : World) (b' bs : List ℕ) (m : ℕ) → Filling w → w.ring.prefilled + m ≤ length w.bytes → length b' ≡ length w.bytes → m ≤ length bs
       → take (w.ring.prefilled + m) b' ≡ take w.ring.prefilled w.bytes ++ take m bs
-      → Filling (called told w record { ring = prefilled_by w.ring m; answer = counted.Bytes m } b' bs)
+      → Filling (called told w record { ring = prefilled_by w.ring m; answer = Ok m } b' bs)
   more w b' bs m g l e h t =
       record {
         count = g.count;
@@ -75,7 +72,7 @@ module _ (n : ℕ) where
       }
 
   -- a refused call
-  nothing-told : (w : World) (bs : List ℕ) (e : DmaBufError) → Filling w → Filling (called told w (refused w.ring (counted.Refused e)) w.bytes bs)
+  nothing-told : (w : World) (bs : List ℕ) (e : DmaBufError) → Filling w → Filling (called told w (refused w.ring (Err e)) w.bytes bs)
   nothing-told w bs e g =
       record {
         count = g.count;
@@ -87,7 +84,7 @@ module _ (n : ℕ) where
       }
 
   push-more : (w : World) (bs : List ℕ) (m : ℕ) → Filling w → m ≤ length bs → w.ring.prefilled + m ≤ length w.bytes
-      → Filling (called told w record { ring = prefilled_by w.ring m; answer = counted.Bytes m } (paste w.bytes w.ring.prefilled bs m) bs)
+      → Filling (called told w record { ring = prefilled_by w.ring m; answer = Ok m } (paste w.bytes w.ring.prefilled bs m) bs)
   push-more w bs m g h l =
       more w (paste w.bytes w.ring.prefilled bs m) bs m g l (length-paste w.bytes w.ring.prefilled bs m l h) h
       (take-paste w.bytes w.ring.prefilled bs m (omega arith) h)
@@ -98,7 +95,7 @@ module _ (n : ℕ) where
   push-fills w bs g =
       let r : Ring = w.ring in
       let m : ℕ = min (length bs) (length w.bytes - r.prefilled) in
-      subst (λ (t : Bool). Filling (called told w (cond t record { ring = prefilled_by r m; answer = counted.Bytes m } (refused r (counted.Refused BadState))) (cond t (paste w.bytes r.prefilled bs m) w.bytes) bs))
+      subst (λ (t : Bool). Filling (called told w (cond t record { ring = prefilled_by r m; answer = Ok m } (refused r (Err BadState))) (cond t (paste w.bytes r.prefilled bs m) w.bytes) bs))
       (sym (splits w g)) (push-more w bs m g (omega arith) (omega (arith, g.room)))
 
   written-some : (w : World) (p : ℕ) (u : List ℕ) → Filling w → w.ring.prefilled + (p + length u) ≤ length w.bytes
@@ -128,7 +125,7 @@ module _ (n : ℕ) where
   -- ---- a commit
 
   commit-told : (w : World) (k : ℕ) (t : Bool) → leb k (length w.bytes - w.ring.prefilled) ≡ t → Filling w
-      → Filling (called told w (cond t record { ring = prefilled_by w.ring k; answer = counted.Bytes k } (refused w.ring (counted.Refused TooMuch))) w.bytes (drop w.ring.prefilled w.bytes))
+      → Filling (called told w (cond t record { ring = prefilled_by w.ring k; answer = Ok k } (refused w.ring (Err TooMuch))) w.bytes (drop w.ring.prefilled w.bytes))
   commit-told w k true e g =
       let h : k ≤ length w.bytes - w.ring.prefilled = leb-true k (length w.bytes - w.ring.prefilled) e in
       more w w.bytes (drop w.ring.prefilled w.bytes) k g (omega (arith, g.room)) refl (rw length-drop h) (take-add w.ring.prefilled k w.bytes)
@@ -137,7 +134,7 @@ module _ (n : ℕ) where
   commit-fills : (w : World) (k : ℕ) → Filling w → Filling (called told w (prefill_commit_of w.ring (length w.bytes) k) w.bytes (prefill_offer_of w.ring w.bytes))
   unfolding prefill_commit_of prefill_offer_of
   commit-fills w k g =
-      subst (λ (t : Bool). Filling (called told w (cond t (cond (leb k (length w.bytes - w.ring.prefilled)) record { ring = prefilled_by w.ring k; answer = counted.Bytes k } (refused w.ring (counted.Refused TooMuch))) (refused w.ring (counted.Refused BadState))) w.bytes (cond t (drop w.ring.prefilled w.bytes) [])))
+      subst (λ (t : Bool). Filling (called told w (cond t (cond (leb k (length w.bytes - w.ring.prefilled)) record { ring = prefilled_by w.ring k; answer = Ok k } (refused w.ring (Err TooMuch))) (refused w.ring (Err BadState))) w.bytes (cond t (drop w.ring.prefilled w.bytes) [])))
       (sym (splits w g)) (commit-told w k (leb k (length w.bytes - w.ring.prefilled)) refl g)
 
   -- ---- any list of prefilling actions
@@ -158,7 +155,7 @@ record Barred (w : World) : Type 0 where
   closed : split_sound w.ring (length w.bytes) ≡ false
   nothing : w.by_calls ≡ []
 
-barred-call : (w : World) (o : Outcome Counted) (bs : List ℕ) (e : DmaBufError) → Barred w → o ≡ refused w.ring (counted.Refused e) → Barred (called told w o w.bytes bs)
+barred-call : (w : World) (o : Outcome (Answer ℕ)) (bs : List ℕ) (e : DmaBufError) → Barred w → o ≡ refused w.ring (Err e) → Barred (called told w o w.bytes bs)
 barred-call w o bs e g h = rw h record { closed = g.closed; nothing = append-nil w.by_calls ∙ g.nothing }
 
 barred-offer : (w : World) → Barred w → prefill_offer_of w.ring w.bytes ≡ []
@@ -169,16 +166,16 @@ barred-into : (w : World) (bs : List ℕ) → Barred w → prefill_into w.ring w
 unfolding prefill_into
 barred-into w bs g = ap (λ (t : Bool). cond t (paste w.bytes w.ring.prefilled bs (min (length bs) (length w.bytes - w.ring.prefilled))) w.bytes) g.closed
 
-barred-push : (w : World) (k : ℕ) → Barred w → prefill_of w.ring (length w.bytes) k ≡ refused w.ring (counted.Refused BadState)
+barred-push : (w : World) (k : ℕ) → Barred w → prefill_of w.ring (length w.bytes) k ≡ refused w.ring (Err BadState)
 unfolding prefill_of
 barred-push w k g =
     let m : ℕ = min k (length w.bytes - w.ring.prefilled) in
-    ap (λ (t : Bool). cond t record { ring = prefilled_by w.ring m; answer = counted.Bytes m } (refused w.ring (counted.Refused BadState))) g.closed
+    ap (λ (t : Bool). cond t record { ring = prefilled_by w.ring m; answer = Ok m } (refused w.ring (Err BadState))) g.closed
 
-barred-commit : (w : World) (k : ℕ) → Barred w → prefill_commit_of w.ring (length w.bytes) k ≡ refused w.ring (counted.Refused BadState)
+barred-commit : (w : World) (k : ℕ) → Barred w → prefill_commit_of w.ring (length w.bytes) k ≡ refused w.ring (Err BadState)
 unfolding prefill_commit_of
 barred-commit w k g =
-    ap (λ (t : Bool). cond t (cond (leb k (length w.bytes - w.ring.prefilled)) record { ring = prefilled_by w.ring k; answer = counted.Bytes k } (refused w.ring (counted.Refused TooMuch))) (refused w.ring (counted.Refused BadState))) g.closed
+    ap (λ (t : Bool). cond t (cond (leb k (length w.bytes - w.ring.prefilled)) record { ring = prefilled_by w.ring k; answer = Ok k } (refused w.ring (Err TooMuch))) (refused w.ring (Err BadState))) g.closed
 
 barred-write : (w : World) (p : ℕ) (v : List ℕ) (m : ℕ) → Barred w → m ≡ 0 → Barred (writes w w.ring.prefilled m p v)
 barred-write w p v m g e =
@@ -220,7 +217,7 @@ unfolding laid_out
 laid-count ds n len = each-length (laid Out n len) n ds
 
 fresh-fills : (r : Ring) (ds : List DmaDescriptor) (n : ℕ) (bytes : List ℕ) → r ≡ fresh (laid_out Out n (length bytes) ds) n → split_sound r (length bytes) ≡ true
-    → Filling n (world r bytes (At 0) [] [] [])
+    → Filling n (world r bytes (Some 0) [] [] [])
 fresh-fills r ds n bytes e h =
     let p : r.prefilled ≡ 0 = ap (λ (x : Ring). x.prefilled) e in
     let (k, i) = laid_of r (length bytes) h in
@@ -236,7 +233,7 @@ fresh-fills r ds n bytes e h =
       counts = ap (λ (x : Ring). x.tally) e;
     }
 
-filled_at : (ds : List DmaDescriptor) (n : ℕ) (bytes : List ℕ) → (new_of Out ds n (length bytes)).answer ≡ done.Ready → (before : List Prefill) (t : Bool) → split_sound (new_of Out ds n (length bytes)).ring (length bytes) ≡ t
+filled_at : (ds : List DmaDescriptor) (n : ℕ) (bytes : List ℕ) → (new_of Out ds n (length bytes)).answer ≡ (Ok tt) → (before : List Prefill) (t : Bool) → split_sound (new_of Out ds n (length bytes)).ring (length bytes) ≡ t
     → 0 < length (run prefill (built Out ds n bytes) before).by_calls → Filling n (run prefill (built Out ds n bytes) before)
 filled_at ds n bytes a before true e h =
     prefills-fill n (built Out ds n bytes) before (fresh-fills (new_of Out ds n (length bytes)).ring ds n bytes (new-ready Out ds n (length bytes) a).ring e)
@@ -244,6 +241,6 @@ filled_at ds n bytes a before false e h =
     absurd (omega (arith, ap length (barred-prefills (built Out ds n bytes) before record { closed = e; nothing = refl }).nothing))
 
 -- PREFILLED: at least one byte accepted before `prepare`
-pub built-fills : (ds : List DmaDescriptor) (n : ℕ) (bytes : List ℕ) → (new_of Out ds n (length bytes)).answer ≡ done.Ready → (before : List Prefill)
+pub built-fills : (ds : List DmaDescriptor) (n : ℕ) (bytes : List ℕ) → (new_of Out ds n (length bytes)).answer ≡ (Ok tt) → (before : List Prefill)
     → 0 < length (run prefill (built Out ds n bytes) before).by_calls → Filling n (run prefill (built Out ds n bytes) before)
 built-fills ds n bytes a before h = filled_at ds n bytes a before (split_sound (new_of Out ds n (length bytes)).ring (length bytes)) refl h

@@ -1,5 +1,5 @@
 -- The ring as `prepare` leaves it with at least one byte prefilled: what was accepted is queued and pending.
-use Rattle.std.specs.Prelude.{◌≡◌, Bool, true, cond, ◌⊎◌, length, drop}
+use Rattle.std.specs.Prelude.{◌≡◌, Bool, true, cond, ◌⊎◌, length, drop, Ok, Err, Some}
 use Rattle.std.proofs.Math.Path.{refl, sym, ap}
 use Rattle.std.proofs.Common.{◌∙◌, subst, arith, lt-ltb, le-ltb, length-take, length-drop, take-take, take-add, take_all}
 use Rattle.std.proofs.Math.Logic.{inl, inr}
@@ -12,11 +12,9 @@ use Rattle.descriptors.specs.Place.{after}
 use Rattle.descriptors.specs.Split.{start_of, size_of}
 use Rattle.descriptors.specs.Ring.{Ring, refused, below, linked_all}
 use Rattle.descriptors.specs.declared.record.Owner.TheVariants.{Cpu, Dma}
-use Rattle.descriptors.specs.declared.record.Next.TheVariants.{At}
 use Rattle.descriptors.specs.declared.record.DmaDescriptor.{DmaDescriptor}
 use Rattle.descriptors.specs.declared.record.TransferDirection.TheVariants.{Out}
 use Rattle.descriptors.specs.declared.refusal.DmaBufError.TheVariants.{BadState}
-use Rattle.descriptors.specs.declared.refusal.Done.TheVariants as done
 use Rattle.ring_order.specs.Places.{place, place-zero, turn}
 use Rattle.ring_order.specs.Lists.{Somes}
 use Rattle.ring_order.specs.Geometry.{within}
@@ -43,7 +41,7 @@ linked-round n d f h x o t zero i e = tt
 linked-round n d f h x o t (suc zero) i e = (o i (omega arith), t i (omega arith) ∙ following-last d i (omega arith), tt)
 linked-round n d f h x o t (suc (suc k)) i e = (
   o i (omega arith),
-  t i (omega arith) ∙ following-inner d i (omega arith) ∙ ap At (sym (x (after n i) ∙ after-inner n i (omega arith))),
+  t i (omega arith) ∙ following-inner d i (omega arith) ∙ ap Some (sym (x (after n i) ∙ after-inner n i (omega arith))),
   subst Linked (sym (round-next f n (suc k) i (omega arith))) (linked-round n d f h x o t (suc k) (suc i) (omega arith)),
 )
 
@@ -72,10 +70,10 @@ loads-round n d f h o (suc k) i e =
     ∙ ap (λ (l : List ℕ). (f i).held ++ l)
     (ap (λ (l : List Cell). join (loads l)) (round-next f n k i (omega arith)) ∙ loads-round n d f h o k (suc i) (omega arith) ∙ ap cat (sym (round-next f n k i (omega arith))))
 
-first_round : (n : ℕ) (f : ℕ → Cell) (d : ℕ) → ((j : ℕ) → (f j).idx ≡ j) → 0 < d → At 0 ≡ first (idxs (round f n d 0))
+first_round : (n : ℕ) (f : ℕ → Cell) (d : ℕ) → ((j : ℕ) → (f j).idx ≡ j) → 0 < d → Some 0 ≡ first (idxs (round f n d 0))
 unfolding round
 first_round n f zero x h = absurd (omega arith)
-first_round n f (suc d) x h = ap At (sym (x 0))
+first_round n f (suc d) x h = ap Some (sym (x 0))
 
 length-round : (n : ℕ) (f : ℕ → Cell) (k i : ℕ) → length (round f n k i) ≡ k
 unfolding round
@@ -242,7 +240,7 @@ module _ (n : ℕ) (w : World) (g : Filling n w) (some : 0 < length w.by_calls) 
   prepare-is : (prepare_of w.ring (length w.bytes)).ring ≡ prepared_as w.ring marked
   unfolding prepare_of
   prepare-is =
-      ap (λ (t : Bool). (cond t record { ring = prepared_as w.ring marked; answer = done.Ready } (refused w.ring (done.Refused BadState))).ring)
+      ap (λ (t : Bool). (cond t record { ring = prepared_as w.ring marked; answer = Ok tt } (refused w.ring (Err BadState))).ring)
       (of-laid w.ring (length w.bytes) g.laid g.room)
 
   prefilled-some : 0 < w.ring.prefilled
@@ -252,7 +250,7 @@ module _ (n : ℕ) (w : World) (g : Filling n w) (some : 0 < length w.by_calls) 
   marks-here = marks w.ring.count (length w.bytes) w.ring.prefilled w.ring.descriptors g.laid prefilled-some g.room
 
   abbrev begins : Ring → World
-  begins r = world r w.bytes (At 0) w.by_calls [] []
+  begins r = world r w.bytes (Some 0) w.by_calls [] []
 
   front-here : List Cell
   front-here = front_of w.ring.count len w.ring.prefilled w.ring.descriptors g.laid marked marks-here prefilled-some w.bytes refl g.lengths
@@ -260,7 +258,7 @@ module _ (n : ℕ) (w : World) (g : Filling n w) (some : 0 < length w.by_calls) 
   queue-here : List Cell
   queue-here = queue_of w.ring.count len w.ring.prefilled w.ring.descriptors g.laid marked marks-here prefilled-some w.bytes refl g.lengths
 
-  order-here : Order Out (length w.bytes) (prepared_as w.ring marked) w.bytes (At 0) 0 front-here queue-here
+  order-here : Order Out (length w.bytes) (prepared_as w.ring marked) w.bytes (Some 0) 0 front-here queue-here
   unfolding turn front-here queue-here
   order-here =
       record {
@@ -286,7 +284,7 @@ module _ (n : ℕ) (w : World) (g : Filling n w) (some : 0 < length w.by_calls) 
             g.held
             ∙ sym (front-is w.ring.count len w.ring.prefilled w.ring.descriptors g.laid marked marks-here prefilled-some w.bytes refl g.lengths marks-here.bytes)
             ∙ ap (λ (x : List ℕ). x ++ take marked.offset (drop (record_in marked.descriptors marked.at).buffer w.bytes))
-            (sym (order-queued (prepared_as w.ring marked) w.bytes (At 0) 0 front-here queue-here order-here));
+            (sym (order-queued (prepared_as w.ring marked) w.bytes (Some 0) 0 front-here queue-here order-here));
         counts = g.counts;
       }
 

@@ -1,11 +1,8 @@
 -- DEMAND 3, transmit: proved.
-use Rattle.std.specs.Prelude.{◌≡◌, refl, ◌↔◌, List, [], ◌∷◌, ℕ, ◌≤◌, ◌<◌, length, take}
+use Rattle.std.specs.Prelude.{◌≡◌, refl, ◌↔◌, List, [], ◌∷◌, ℕ, ◌≤◌, ◌<◌, length, take, Ok, Some, None}
 use Rattle.std.proofs.Common.{sym, ◌∙◌, ap, subst, inl, inr, append-nil, arith, length-append}
-use Rattle.descriptors.specs.declared.record.Next.TheVariants.{Nothing, At}
 use Rattle.descriptors.specs.declared.record.DmaDescriptor.{DmaDescriptor}
 use Rattle.descriptors.specs.declared.record.TransferDirection.TheVariants.{Out}
-use Rattle.descriptors.specs.declared.refusal.Counted.{Counted}
-use Rattle.descriptors.specs.declared.refusal.Done.TheVariants as done
 use Rattle.tx_stream.specs.Transmit.{prepare_of}
 use Rattle.ring_order.specs.Lists.{Somes}
 use Rattle.ring_order.specs.Shape.{grounds}
@@ -20,6 +17,7 @@ use Rattle.both_ends.proofs.Shared.{Keeps, life, agrees}
 use Rattle.both_ends.proofs.transmit.Prefilling.{Filling, built-fills}
 use Rattle.both_ends.specs.transmit.Sending.{send-stopped}
 use Rattle.both_ends.proofs.transmit.Trace.{Fine, fine-passes, order-queued, sends_by, Made, step-made}
+use Rattle.descriptors.specs.Refusal.{Answer}
 use Rattle.both_ends.proofs.transmit.Start.{start_fine}
 
 -- ---- nothing is queued exactly when the queue has no record
@@ -44,19 +42,19 @@ module _ (n q : ℕ) (w : World) (g : Fine n q w) where
   none-queued e = queued-of ∙ none-join g.queue (g.size ∙ e)
 
   -- a device stands at the queue's head
-  none-stopped : (xs : List Cell) → length xs ≡ 0 → Stands w.device (idxs xs) → w.device ≡ Nothing
+  none-stopped : (xs : List Cell) → length xs ≡ 0 → Stands w.device (idxs xs) → w.device ≡ None
   none-stopped xs e (inl h) = h
   none-stopped [] e (inr h) = h
   none-stopped (x ∷ xs) e (inr h) = absurd (omega arith)
 
 -- ---- the device stops
 
-module _ (n q : ℕ) (w : World) (i : ℕ) (on : w.device ≡ At i) (w' : World) (m : Made n q w w') where
-  stops_then : Move n q w.device w.visited m.more w'.device w'.visited → w'.device ≡ Nothing → m.more ≡ 0
+module _ (n q : ℕ) (w : World) (i : ℕ) (on : w.device ≡ Some i) (w' : World) (m : Made n q w w') where
+  stops_then : Move n q w.device w.visited m.more w'.device w'.visited → w'.device ≡ None → m.more ≡ 0
   stops_then (steps a b c d) e = d e
   stops_then (gives a b c) e = absurd (stopped-not w.device i on (sym c ∙ e))
 
-  stops : (w'.device ≡ Nothing) ↔ (queued_in w'.ring w'.bytes ≡ [])
+  stops : (w'.device ≡ None) ↔ (queued_in w'.ring w'.bytes ≡ [])
   stops = (
     λ e. none-queued n m.more w' m.fine (stops_then m.move e),
     λ e. none-stopped n m.more w' m.fine m.fine.queue (m.fine.size ∙ queued-none n m.more w' m.fine e) m.fine.order.stands,
@@ -64,7 +62,7 @@ module _ (n q : ℕ) (w : World) (i : ℕ) (on : w.device ≡ At i) (w' : World)
 
 -- ---- a stopped device sends nothing, and calls only add to what was accepted
 
-sent-still : (n q : ℕ) (w : World) → Fine n q w → w.device ≡ Nothing → (a : TxAction) → (tx_step w a).by_steps ≡ w.by_steps
+sent-still : (n q : ℕ) (w : World) → Fine n q w → w.device ≡ None → (a : TxAction) → (tx_step w a).by_steps ≡ w.by_steps
 unfolding tx_step
 sent-still n q w g d (tx_look l) = refl
 sent-still n q w g d (push bs) = refl
@@ -72,7 +70,7 @@ sent-still n q w g d (advance k) = refl
 sent-still n q w g d (commit k) = refl
 sent-still n q w g d (write p v) = refl
 sent-still n q w g d (send out) =
-    ap (λ (s : Stepped Counted). (sends_by w s (transmit_over w.ring w.device w.bytes out)).by_steps)
+    ap (λ (s : Stepped (Answer ℕ)). (sends_by w s (transmit_over w.ring w.device w.bytes out)).by_steps)
     (send-stopped w.ring w.device (length w.bytes) (fine-passes n q w g) (length out) d)
     ∙ append-nil w.by_steps
 
@@ -107,11 +105,11 @@ module _ (n : ℕ) (hn : 0 < n) where
         both = agrees keeps q w g turns;
         ends = g.ends;
         stop = λ i e a. stops n q w i e (tx_step w a) (step-made n q w g a);
-        refused = λ e out. ap (λ (s : Stepped Counted). s.answer) (send-stopped w.ring w.device (length w.bytes) (fine-passes n q w g) (length out) e);
+        refused = λ e out. ap (λ (s : Stepped (Answer ℕ)). s.answer) (send-stopped w.ring w.device (length w.bytes) (fine-passes n q w g) (length out) e);
       }
 
 -- TRANSMIT
-pub transmit-holds : (ds : List DmaDescriptor) (n : ℕ) (bytes : List ℕ) → (new_of Out ds n (length bytes)).answer ≡ done.Ready → (before : List Prefill)
+pub transmit-holds : (ds : List DmaDescriptor) (n : ℕ) (bytes : List ℕ) → (new_of Out ds n (length bytes)).answer ≡ (Ok tt) → (before : List Prefill)
     → 0 < length (run prefill (built Out ds n bytes) before).by_calls → (acts : List TxAction)
     → Transmit n (run tx_step (prepared prepare_of (run prefill (built Out ds n bytes) before)) acts)
 transmit-holds ds n bytes new before h acts =

@@ -1,5 +1,5 @@
 -- Whatever calls and steps come, in any order: the invariant of transmit, kept by each.
-use Rattle.std.specs.Prelude.{◌≡◌, Bool, true, false, cond, leb, length, drop}
+use Rattle.std.specs.Prelude.{◌≡◌, Bool, true, false, cond, leb, length, drop, Ok, Err, Some, None, Option}
 use Rattle.std.proofs.Math.Path.{refl, ap, subst}
 use Rattle.std.proofs.Common.{sym, ◌∙◌, inl, inr, arith, leb-true, length-append, length-take, length-drop, length-take-le, take_at, take-take}
 use mathlib.Core.List.{List, [], ◌∷◌, ◌++◌, append_assoc, append-nil, map, map-map, map-append}
@@ -12,14 +12,10 @@ use Rattle.descriptors.specs.Record.{record_in, update, sent}
 use Rattle.descriptors.specs.Place.{after}
 use Rattle.descriptors.specs.Ring.{Ring, Outcome, refused, record_of, with_records, sound}
 use Rattle.descriptors.specs.Walk.{available_in, standing, advanced}
-use Rattle.descriptors.specs.declared.record.Next.{Next}
-use Rattle.descriptors.specs.declared.record.Next.TheVariants.{Nothing, At}
 use Rattle.descriptors.specs.declared.record.DmaDescriptor.{DmaDescriptor}
 use Rattle.descriptors.specs.declared.record.TransferDirection.TheVariants.{Out}
 use Rattle.descriptors.specs.declared.refusal.DmaBufError.{DmaBufError}
 use Rattle.descriptors.specs.declared.refusal.DmaBufError.TheVariants.{TooMuch, BadState, Stopped}
-use Rattle.descriptors.specs.declared.refusal.Counted.{Counted}
-use Rattle.descriptors.specs.declared.refusal.Counted.TheVariants as counted
 use Rattle.ring_order.specs.Lists.{Somes, somes-append, somes-first}
 use Rattle.ring_order.specs.Geometry.{within}
 use Rattle.ring_order.specs.Shape.{Sound, sound-of}
@@ -40,6 +36,7 @@ use Rattle.both_ends.proofs.transmit.Prefilling.{counts-more, part-written}
 use Rattle.both_ends.proofs.transmit.Bytes.{sends, sends-append, sends-cpus, queued-is}
 use Rattle.both_ends.proofs.transmit.Accepting.{advanced-count, advanced-tally, advanced-outgoing}
 use Rattle.both_ends.proofs.transmit.Calls.{Kept, accepted-up-to, offer-kept, many, push-is, push_kept, push-stands}
+use Rattle.descriptors.specs.Refusal.{Answer}
 use Rattle.both_ends.specs.transmit.Sending.{send-stopped, send-on, over-on}
 
 -- ---- the invariant: the queue is in order, and each of its records has bytes
@@ -67,7 +64,7 @@ sends-linked [] l = refl
 sends-linked (y ∷ ys) l =
     ap (λ (t : Bool). cond t [] (take y.desc.length y.held) ++ sends ys) (dma-test y.desc.owner l.0) ∙ ap (λ (r : List ℕ). take y.desc.length y.held ++ r) (sends-linked ys l.2)
 
-pub order-queued : (r : Ring) (b : List ℕ) (dev : Next) (t : ℕ) (run rest : List Cell) → Order Out (length b) r b dev t run rest → queued_in r b ≡ join (loads rest)
+pub order-queued : (r : Ring) (b : List ℕ) (dev : Option ℕ) (t : ℕ) (run rest : List Cell) → Order Out (length b) r b dev t run rest → queued_in r b ≡ join (loads rest)
 order-queued r b dev t run rest o =
     let p = o.parted in
     queued-is r b (sound-of Out r (length b) (order-sound Out (length b) r b dev t run rest o))
@@ -184,7 +181,7 @@ pub record Grown (n q : ℕ) (w : World) : Type 0 where
   pub least : q ≤ more
 
 accept-fine : (n q : ℕ) (w : World) (g : Fine n q w) (k : ℕ) → k ≤ available_in Out w.ring → (bs : List ℕ) → take k bs ≡ take k (standing Out w.ring w.bytes)
-    → Grown n q (called told w record { ring = advanced Out w.ring k; answer = counted.Bytes k } w.bytes bs)
+    → Grown n q (called told w record { ring = advanced Out w.ring k; answer = Ok k } w.bytes bs)
 accept-fine n q w g k h bs e =
     let r : Ring = w.ring in
     let b : List ℕ = w.bytes in
@@ -218,7 +215,7 @@ accept-fine n q w g k h bs e =
 -- ---- the calls
 
 -- a call or a step that is refused
-refused-fine : (n q : ℕ) (w : World) (bs : List ℕ) (e : DmaBufError) → Fine n q w → Fine n q (called told w (refused w.ring (counted.Refused e)) w.bytes bs)
+refused-fine : (n q : ℕ) (w : World) (bs : List ℕ) (e : DmaBufError) → Fine n q w → Fine n q (called told w (refused w.ring (Err e)) w.bytes bs)
 refused-fine n q w bs e g =
     record {
       front = g.front;
@@ -239,20 +236,20 @@ push-fine n q w bs g =
     let r : Ring = w.ring in
     let b : List ℕ = w.bytes in
     let s : Sound Out r (length b) = fine-sound n q w g in
-    subst (λ (o : Outcome Counted). Grown n q (called told w o (push_into r b bs) bs)) (sym (push-is r b s bs))
+    subst (λ (o : Outcome (Answer ℕ)). Grown n q (called told w o (push_into r b bs) bs)) (sym (push-is r b s bs))
     (accept-fine n q (with_bytes w (push_into r b bs))
     (written-fine n q w (push_into r b bs) g (push_kept r b s bs)) (many r b s bs) (omega arith) bs (sym (push-stands r b s bs)))
 
 accept-told : (n q : ℕ) (w : World) (g : Fine n q w) (bound k : ℕ) → bound ≤ available_in Out w.ring → (t : Bool) → leb k bound ≡ t
-    → Grown n q (called told w (cond t record { ring = advanced Out w.ring k; answer = counted.Bytes k } (refused w.ring (counted.Refused TooMuch))) w.bytes (standing Out w.ring w.bytes))
+    → Grown n q (called told w (cond t record { ring = advanced Out w.ring k; answer = Ok k } (refused w.ring (Err TooMuch))) w.bytes (standing Out w.ring w.bytes))
 accept-told n q w g bound k h true e = accept-fine n q w g k (omega (arith, leb-true k bound e)) (standing Out w.ring w.bytes) refl
 accept-told n q w g bound k h false e =
-    same n q (called told w (refused w.ring (counted.Refused TooMuch)) w.bytes (standing Out w.ring w.bytes)) (refused-fine n q w (standing Out w.ring w.bytes) TooMuch g)
+    same n q (called told w (refused w.ring (Err TooMuch)) w.bytes (standing Out w.ring w.bytes)) (refused-fine n q w (standing Out w.ring w.bytes) TooMuch g)
 
 up-to-fine : (n q : ℕ) (w : World) (bound k : ℕ) → Fine n q w → bound ≤ available_in Out w.ring
     → Grown n q (called told w (accepted_up_to bound w.ring (length w.bytes) k) w.bytes (standing Out w.ring w.bytes))
 up-to-fine n q w bound k g h =
-    subst (λ (o : Outcome Counted). Grown n q (called told w o w.bytes (standing Out w.ring w.bytes))) (sym (accepted-up-to w.ring w.bytes (fine-sound n q w g) bound k (leb k bound) refl))
+    subst (λ (o : Outcome (Answer ℕ)). Grown n q (called told w o w.bytes (standing Out w.ring w.bytes))) (sym (accepted-up-to w.ring w.bytes (fine-sound n q w g) bound k (leb k bound) refl))
     (accept-told n q w g bound k h (leb k bound) refl)
 
 write-fine : (n q : ℕ) (w : World) (p : ℕ) (v : List ℕ) → Fine n q w → Fine n q (writes w (write_at w.ring) (length (offer_of w.ring w.bytes)) p v)
@@ -264,7 +261,7 @@ write-fine n q w p v g =
 -- ---- the device's step
 
 -- a step that leaves `out` in its output
-abbrev pub sends_by : World → Stepped Counted → List ℕ → World
+abbrev pub sends_by : World → Stepped (Answer ℕ) → List ℕ → World
 sends_by w s out = stepped w s w.bytes (told s.answer out) (unless_refused s.answer (stands_on w.device))
 
 sent-buffer : (ds : List DmaDescriptor) (i j : ℕ) → i < length ds → Dec (j ≡ i) → (record_in (update ds i sent) j).buffer ≡ (record_in ds j).buffer
@@ -314,12 +311,12 @@ module _ (n : ℕ) (w : World) (front : List Cell) (x : Cell) (behind : List Cel
       ∙ sym (take-take d.length d.size (drop d.buffer b) l)
       ∙ ap (λ (y : Cell). take y.desc.length y.held) (sym here.1)
 
-  module _ (left : List ℕ) (put : take head-record.length left ≡ take x.desc.length x.held) (on : w.device ≡ At x.idx) where
+  module _ (left : List ℕ) (put : take head-record.length left ≡ take x.desc.length x.held) (on : w.device ≡ Some x.idx) where
     abbrev afterwards : World
-    afterwards = sends_by w record { ring = with_records w.ring after-send; device = head-record.next; answer = counted.Bytes head-record.length } left
+    afterwards = sends_by w record { ring = with_records w.ring after-send; device = head-record.next; answer = Ok head-record.length } left
 
     emptied-then : w.visited ++ stands_on w.device ≡ w.visited ++ (x.idx ∷ [])
-    emptied-then = ap (λ (d : Next). w.visited ++ stands_on d) on
+    emptied-then = ap (λ (d : Option ℕ). w.visited ++ stands_on d) on
 
     emptied-more : suc (length w.visited) ≡ length (w.visited ++ stands_on w.device)
     emptied-more =
@@ -368,26 +365,26 @@ idle n q w g = record { more = q; fine = g; move = gives refl (omega arith) refl
 call-made : (n q : ℕ) (w w' : World) → Grown n q w' → w'.device ≡ w.device → w'.visited ≡ w.visited → Made n q w w'
 call-made n q w w' m d e = record { more = m.more; fine = m.fine; move = gives e m.least d }
 
-refused-step : (n q : ℕ) (w : World) (e : DmaBufError) (left : List ℕ) → Fine n q w → Made n q w (sends_by w record { ring = w.ring; device = w.device; answer = counted.Refused e } left)
+refused-step : (n q : ℕ) (w : World) (e : DmaBufError) (left : List ℕ) → Fine n q w → Made n q w (sends_by w record { ring = w.ring; device = w.device; answer = Err e } left)
 refused-step n q w e left g =
     subst (Made n q w) (sym (alone w)) (idle n q w g)
 
 module _ (n q : ℕ) (w : World) (g : Fine n q w) (out : List ℕ) (front : List Cell) (x : Cell) (behind : List Cell)
     (o : Order Out (length w.bytes) w.ring w.bytes w.device (length w.visited) front (x ∷ behind)) (m : Somes (loads (x ∷ behind))) (z : suc (length behind) ≡ q)
-    (on : w.device ≡ At x.idx) (turns : x.idx ≡ turn n (length w.visited)) where
+    (on : w.device ≡ Some x.idx) (turns : x.idx ≡ turn n (length w.visited)) where
   sent-made : (left : List ℕ) → take (record_of w.ring x.idx).length left ≡ take x.desc.length x.held
-      → Made n q w (sends_by w record { ring = with_records w.ring (update w.ring.descriptors x.idx sent); device = (record_of w.ring x.idx).next; answer = counted.Bytes (record_of w.ring x.idx).length } left)
+      → Made n q w (sends_by w record { ring = with_records w.ring (update w.ring.descriptors x.idx sent); device = (record_of w.ring x.idx).next; answer = Ok (record_of w.ring x.idx).length } left)
   sent-made left put =
       record {
         more = length behind;
         fine = sent-fine n w front x behind o left put on g.count m g.ends g.counts;
-        move = steps (on ∙ ap At turns) (emptied-then n w front x behind o left put on ∙ ap (λ (i : ℕ). w.visited ++ (i ∷ [])) turns) (sym z)
+        move = steps (on ∙ ap Some turns) (emptied-then n w front x behind o left put on ∙ ap (λ (i : ℕ). w.visited ++ (i ∷ [])) turns) (sym z)
             (λ e. first-none behind (sym (head-next Out (length w.bytes) w.ring w.bytes w.device (length w.visited) front x behind o) ∙ e));
       }
 
   send-told : (t : Bool) → leb (record_of w.ring x.idx).length (length out) ≡ t
-      → Made n q w (sends_by w (cond t record { ring = with_records w.ring (update w.ring.descriptors x.idx sent); device = (record_of w.ring x.idx).next; answer = counted.Bytes (record_of w.ring x.idx).length }
-      record { ring = w.ring; device = w.device; answer = counted.Refused BadState }) (transmit_over w.ring w.device w.bytes out))
+      → Made n q w (sends_by w (cond t record { ring = with_records w.ring (update w.ring.descriptors x.idx sent); device = (record_of w.ring x.idx).next; answer = Ok (record_of w.ring x.idx).length }
+      record { ring = w.ring; device = w.device; answer = Err BadState }) (transmit_over w.ring w.device w.bytes out))
   send-told true e =
       sent-made (transmit_over w.ring w.device w.bytes out)
       (ap (take (record_of w.ring x.idx).length) (over-on w.ring w.device w.bytes out x.idx (fine-passes n q w g) on (here n w front x behind o).0 e)
@@ -396,23 +393,23 @@ module _ (n q : ℕ) (w : World) (g : Fine n q w) (out : List ℕ) (front : List
 
   send-made : Made n q w (sends_by w (transmit_of w.ring w.device (length w.bytes) (length out)) (transmit_over w.ring w.device w.bytes out))
   send-made =
-      subst (λ (s : Stepped Counted). Made n q w (sends_by w s (transmit_over w.ring w.device w.bytes out)))
+      subst (λ (s : Stepped (Answer ℕ)). Made n q w (sends_by w s (transmit_over w.ring w.device w.bytes out)))
       (sym (send-on w.ring w.device (length w.bytes) (fine-passes n q w g) (length out) x.idx (leb (record_of w.ring x.idx).length (length out)) on (here n w front x behind o).0 refl))
       (send-told (leb (record_of w.ring x.idx).length (length out)) refl)
 
-send_by : (n q : ℕ) (w : World) (out : List ℕ) → Fine n q w → (d : Next) → w.device ≡ d
+send_by : (n q : ℕ) (w : World) (out : List ℕ) → Fine n q w → (d : Option ℕ) → w.device ≡ d
     → Made n q w (sends_by w (transmit_of w.ring w.device (length w.bytes) (length out)) (transmit_over w.ring w.device w.bytes out))
-send_by n q w out g Nothing e =
-    subst (λ (s : Stepped Counted). Made n q w (sends_by w s (transmit_over w.ring w.device w.bytes out)))
+send_by n q w out g None e =
+    subst (λ (s : Stepped (Answer ℕ)). Made n q w (sends_by w s (transmit_over w.ring w.device w.bytes out)))
     (sym (send-stopped w.ring w.device (length w.bytes) (fine-passes n q w g) (length out) e))
     (refused-step n q w Stopped (transmit_over w.ring w.device w.bytes out) g)
-send_by n q w out g (At i) e =
+send_by n q w out g (Some i) e =
     let h = head_at Out (length w.bytes) w.ring w.bytes w.device (length w.visited) g.front g.queue g.order i e in
     send-made n q w g out g.front h.head h.behind
     (subst (λ (l : List Cell). Order Out (length w.bytes) w.ring w.bytes w.device (length w.visited) g.front l) h.queue g.order)
     (subst (λ (l : List Cell). Somes (loads l)) h.queue g.somes)
     (ap length (sym h.queue) ∙ g.size)
-    (e ∙ ap At h.number)
+    (e ∙ ap Some h.number)
     (sym h.number ∙ h.turns ∙ ap (λ (m : ℕ). turn m (length w.visited)) g.count)
 
 pub step-made : (n q : ℕ) (w : World) → Fine n q w → (a : TxAction) → Made n q w (tx_step w a)

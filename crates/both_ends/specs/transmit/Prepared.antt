@@ -1,5 +1,5 @@
 -- `prepare`, by document 01's cases: where the prefilled bytes end, and what every record is then.
-use Rattle.std.specs.Prelude.{◌≡◌, Bool, true, false, ◌⊎◌, ◌≢◌, List, eqb, ltb, length}
+use Rattle.std.specs.Prelude.{◌≡◌, Bool, true, false, ◌⊎◌, ◌≢◌, List, eqb, ltb, length, Some, None, Option}
 use Rattle.std.proofs.Math.Path.{refl, ap}
 use Rattle.std.proofs.Common.{sym, ◌∙◌, subst, inl, inr, arith, add-one, ltb-true, ltb-false, le-leb, eq-eqb, ne_eqb, eqb-true}
 use Rattle.std.proofs.Math.Bool.{cond}
@@ -10,8 +10,6 @@ use Rattle.descriptors.specs.Record.{record_in, update, with_owner, with_next, f
 use Rattle.descriptors.specs.Split.{start_of, size_of}
 use Rattle.descriptors.specs.Ring.{linked_all}
 use Rattle.descriptors.specs.declared.record.Owner.TheVariants.{Cpu, Dma}
-use Rattle.descriptors.specs.declared.record.Next.{Next}
-use Rattle.descriptors.specs.declared.record.Next.TheVariants.{Nothing, At}
 use Rattle.descriptors.specs.declared.record.DmaDescriptor.{DmaDescriptor}
 use Rattle.descriptors.specs.declared.record.TransferDirection.TheVariants.{Out}
 use Rattle.ring_order.specs.Geometry.{Geometry}
@@ -71,30 +69,30 @@ readied d k j r = record { buffer = r.buffer; size = r.size; length = k; suc_eof
 abbrev pub freed : ℕ → ℕ → DmaDescriptor → DmaDescriptor
 freed n j r = record { buffer = r.buffer; size = r.size; length = r.length; suc_eof = r.suc_eof; owner = Cpu; next = following n j }
 
-pub following-last : (n j : ℕ) → suc j ≡ n → following n j ≡ Nothing
-following-last n j e = ap (λ (t : Bool). cond t Nothing (At (j + 1))) (eq-eqb (j + 1) n (omega arith))
+pub following-last : (n j : ℕ) → suc j ≡ n → following n j ≡ None
+following-last n j e = ap (λ (t : Bool). cond t None (Some (j + 1))) (eq-eqb (j + 1) n (omega arith))
 
-pub following-inner : (n j : ℕ) → suc j ≢ n → following n j ≡ At (suc j)
-following-inner n j e = ap (λ (t : Bool). cond t Nothing (At (j + 1))) (ne_eqb (j + 1) n (λ q. e (omega arith))) ∙ ap At (add-one j)
+pub following-inner : (n j : ℕ) → suc j ≢ n → following n j ≡ Some (suc j)
+following-inner n j e = ap (λ (t : Bool). cond t None (Some (j + 1))) (ne_eqb (j + 1) n (λ q. e (omega arith))) ∙ ap Some (add-one j)
 
 cut-free : (c j : ℕ) (x : DmaDescriptor) → c ≤ j → cut c j x ≡ with_owner Cpu x
-cut-free c j x h = ap (λ (t : Bool). cond t (with_owner Cpu x) (cond (eqb (j + 1) c) (with_next Nothing x) x)) (le-leb c j h)
+cut-free c j x h = ap (λ (t : Bool). cond t (with_owner Cpu x) (cond (eqb (j + 1) c) (with_next None x) x)) (le-leb c j h)
 
-cut-kept : (c j : ℕ) (x : DmaDescriptor) → j < c → cut c j x ≡ cond (eqb (j + 1) c) (with_next Nothing x) x
-cut-kept c j x h = ap (λ (t : Bool). cond t (with_owner Cpu x) (cond (eqb (j + 1) c) (with_next Nothing x) x)) (lt-leb c j h)
+cut-kept : (c j : ℕ) (x : DmaDescriptor) → j < c → cut c j x ≡ cond (eqb (j + 1) c) (with_next None x) x
+cut-kept c j x h = ap (λ (t : Bool). cond t (with_owner Cpu x) (cond (eqb (j + 1) c) (with_next None x) x)) (lt-leb c j h)
 
-cut-last : (c j : ℕ) (x : DmaDescriptor) → suc j ≡ c → cut c j x ≡ with_next Nothing x
-cut-last c j x e = cut-kept c j x (omega arith) ∙ ap (λ (t : Bool). cond t (with_next Nothing x) x) (eq-eqb (j + 1) c (omega arith))
+cut-last : (c j : ℕ) (x : DmaDescriptor) → suc j ≡ c → cut c j x ≡ with_next None x
+cut-last c j x e = cut-kept c j x (omega arith) ∙ ap (λ (t : Bool). cond t (with_next None x) x) (eq-eqb (j + 1) c (omega arith))
 
 cut-inner : (c j : ℕ) (x : DmaDescriptor) → suc j < c → cut c j x ≡ x
-cut-inner c j x h = cut-kept c j x (omega arith) ∙ ap (λ (t : Bool). cond t (with_next Nothing x) x) (ne_eqb (j + 1) c (omega arith))
+cut-inner c j x h = cut-kept c j x (omega arith) ∙ ap (λ (t : Bool). cond t (with_next None x) x) (ne_eqb (j + 1) c (omega arith))
 
 cut-queue : (n d k j : ℕ) (r : DmaDescriptor) → j < d → d < n → Dec (suc j ≡ d) → cut d j (filled k (linked Out n j r)) ≡ readied d k j r
 cut-queue n d k j r h l (yes e) =
-    cut-last d j (filled k (linked Out n j r)) e ∙ ap (λ (x : Next). with_next x (filled k (linked Out n j r))) (sym (following-last d j e))
+    cut-last d j (filled k (linked Out n j r)) e ∙ ap (λ (x : Option ℕ). with_next x (filled k (linked Out n j r))) (sym (following-last d j e))
 cut-queue n d k j r h l (no e) =
     cut-inner d j (filled k (linked Out n j r)) (omega arith)
-    ∙ ap (λ (x : Next). with_next x (filled k (linked Out n j r))) (following-inner n j (omega arith) ∙ sym (following-inner d j e))
+    ∙ ap (λ (x : Option ℕ). with_next x (filled k (linked Out n j r))) (following-inner n j (omega arith) ∙ sym (following-inner d j e))
 
 -- ---- the three cases in which a byte is prefilled
 

@@ -1,5 +1,5 @@
 -- What the calls without a loop of their own answer, case by case.
-use Rattle.std.specs.Prelude.{ℕ, ◌+◌, ◌-◌, ◌≤◌, min, Bool, List, length}
+use Rattle.std.specs.Prelude.{ℕ, ◌+◌, ◌-◌, ◌≤◌, min, Bool, List, length, Ok, Err}
 use Rattle.std.proofs.Math.Path.{◌≡◌, refl, ap}
 use Rattle.std.proofs.Common.{◌∙◌, arith, ne_eqb, ltb-false}
 use Rattle.std.proofs.Math.Bool.{true, false, cond}
@@ -11,9 +11,6 @@ use Rattle.descriptors.specs.Walk.{available_in}
 use Rattle.descriptors.specs.declared.record.TransferDirection.TheVariants.{In, Out}
 use Rattle.descriptors.specs.declared.refusal.DmaBufError.{DmaBufError}
 use Rattle.descriptors.specs.declared.refusal.DmaBufError.TheVariants.{BadState, UnsupportedMemoryRegion}
-use Rattle.descriptors.specs.declared.refusal.Counted.TheVariants as counted
-use Rattle.descriptors.specs.declared.refusal.Done.{Done}
-use Rattle.descriptors.specs.declared.refusal.Done.TheVariants as done
 use Rattle.descriptors.specs.declared.ring.Head.{Head}
 use Rattle.rx_stream.specs.Receive.{peek_from, peek_bytes, flat_eof}
 use Rattle.tx_stream.specs.Transmit.{available_of, write_at, offered, prefill_offer_refusal_of}
@@ -22,60 +19,59 @@ use Rattle.psram.specs.Piece.{bytes_of}
 use Rattle.psram.specs.laws.Parts.{parted, sides}
 use Rattle.psram.specs.declared.chip.Chip.{Chip}
 use Rattle.psram.specs.declared.plan.Plan.{Plan}
-use Rattle.psram.specs.declared.plan.Cut.TheVariants as cut
 use Rattle.capi.specs.Words.{head_made}
 use Rattle.capi.specs.Answer.{said_number, said_in}
 use Rattle.capi.specs.New.{head_if}
 use Rattle.capi.specs.Parts.{peek_said, until_eof_said, offer_said, prefill_offer_said}
 use Rattle.capi.specs.Pieces.{ready_said}
+use Rattle.descriptors.specs.Refusal.{Answer}
 use Rattle.capi.specs.declared.answer.Said.{Said}
-use Rattle.capi.specs.declared.answer.Said.TheVariants.{Words, Refused}
 
 -- ---- `new`: no five words, no store
 
-pub head-if-not : (d : Done) (hw : List ℕ) (h : Head) → (length hw ≡ 5 → ⊥) → head_if d hw h ≡ hw
+pub head-if-not : (d : Answer Unit) (hw : List ℕ) (h : Head) → (length hw ≡ 5 → ⊥) → head_if d hw h ≡ hw
 unfolding head_made
-head-if-not done.Ready hw h n = rw (ne_eqb _ _ n)
-head-if-not (done.Refused e) hw h n = refl
+head-if-not (Ok tt) hw h n = rw (ne_eqb _ _ n)
+head-if-not (Err e) hw h n = refl
 
 -- ---- the offers
 
 module _ (r : Ring) (len : ℕ) where
-  pub offer-no : (e : DmaBufError) → available_of r len ≡ counted.Refused e → offer_said r len ≡ Refused e
+  pub offer-no : (e : DmaBufError) → available_of r len ≡ Err e → offer_said r len ≡ Err e
   unfolding available_of offer_said
   offer-no e = go (sound Out r len)
     where
-      go : (b : Bool) → cond b (counted.Bytes (available_in Out r)) (counted.Refused BadState) ≡ counted.Refused e
-          → cond b (Words (write_at r) (offered r len) 0) (Refused BadState) ≡ Refused e
+      go : (b : Bool) → cond b (Ok (available_in Out r)) (Err BadState) ≡ Err e
+          → cond b (Ok (record { first = write_at r; second = offered r len; third = 0 })) (Err BadState) ≡ Err e
       go true h = cc
       go false h = cc
 
-  pub offer-yes : (k : ℕ) → available_of r len ≡ counted.Bytes k → (sound Out r len ≡ true) × (k ≡ available_in Out r)
+  pub offer-yes : (k : ℕ) → available_of r len ≡ Ok k → (sound Out r len ≡ true) × (k ≡ available_in Out r)
   unfolding available_of
   offer-yes k = go (sound Out r len) refl
     where
-      go : (b : Bool) → sound Out r len ≡ b → cond b (counted.Bytes (available_in Out r)) (counted.Refused BadState) ≡ counted.Bytes k
+      go : (b : Bool) → sound Out r len ≡ b → cond b (Ok (available_in Out r)) (Err BadState) ≡ Ok k
           → (sound Out r len ≡ true) × (k ≡ available_in Out r)
       go true e h = (e, cc)
       go false e h = absurd (let z : ◌≡◌ {A = ℕ} 0 1 = cc in omega arith)
 
-  pub offer-words : sound Out r len ≡ true → (x y : ℕ) → x ≡ write_at r → y ≡ min (available_in Out r) (len - x) → Words x y 0 ≡ offer_said r len
+  pub offer-words : sound Out r len ≡ true → (x y : ℕ) → x ≡ write_at r → y ≡ min (available_in Out r) (len - x) → Ok (record { first = x; second = y; third = 0 }) ≡ offer_said r len
   unfolding offer_said
-  offer-words s x y p q = rw s (ap (λ (z : ℕ). Words x z 0) q ∙ ap (λ (z : ℕ). Words z (min (available_in Out r) (len - z)) 0) p)
+  offer-words s x y p q = rw s (ap (λ (z : ℕ). Ok (record { first = x; second = z; third = 0 })) q ∙ ap (λ (z : ℕ). Ok (record { first = z; second = min (available_in Out r) (len - z); third = 0 })) p)
 
-  pub prefill-offer-no : (e : DmaBufError) → prefill_offer_refusal_of r len ≡ done.Refused e → prefill_offer_said r len ≡ Refused e
+  pub prefill-offer-no : (e : DmaBufError) → prefill_offer_refusal_of r len ≡ Err e → prefill_offer_said r len ≡ Err e
   unfolding prefill_offer_refusal_of prefill_offer_said
   prefill-offer-no e = go (split_sound r len)
     where
-      go : (b : Bool) → judged b ≡ done.Refused e → cond b (Words r.prefilled (len - r.prefilled) 0) (Refused BadState) ≡ Refused e
+      go : (b : Bool) → judged b ≡ Err e → cond b (Ok (record { first = r.prefilled; second = len - r.prefilled; third = 0 })) (Err BadState) ≡ Err e
       go true h = cc
       go false h = cc
 
-  pub prefill-offer-yes : prefill_offer_refusal_of r len ≡ done.Ready → split_sound r len ≡ true
+  pub prefill-offer-yes : prefill_offer_refusal_of r len ≡ (Ok tt) → split_sound r len ≡ true
   unfolding prefill_offer_refusal_of
   prefill-offer-yes = go (split_sound r len)
     where
-      go : (b : Bool) → judged b ≡ done.Ready → b ≡ true
+      go : (b : Bool) → judged b ≡ (Ok tt) → b ≡ true
       go true h = refl
       go false h = cc
 
@@ -83,30 +79,30 @@ module _ (r : Ring) (len : ℕ) where
 
 pub record Until (r : Ring) (len x y : ℕ) : Type 0 where
   pub sound : sound In r len ≡ true
-  pub words : (z : ℕ) → z ≡ eof_cell (flat_eof (record_in r.descriptors) (r.count - r.idx) r.idx) → Words x y z ≡ until_eof_said r len
+  pub words : (z : ℕ) → z ≡ eof_cell (flat_eof (record_in r.descriptors) (r.count - r.idx) r.idx) → Ok (record { first = x; second = y; third = z }) ≡ until_eof_said r len
 
 module _ (r : Ring) (len : ℕ) where
   abbrev eof : ℕ
   eof = eof_cell (flat_eof (record_in r.descriptors) (r.count - r.idx) r.idx)
 
-  pub until-no : (e : DmaBufError) → peek_said true r len ≡ Refused e → peek_said true r len ≡ until_eof_said r len
+  pub until-no : (e : DmaBufError) → peek_said true r len ≡ Err e → peek_said true r len ≡ until_eof_said r len
   unfolding peek_said until_eof_said
   until-no e = go (sound In r len)
     where
-      go : (b : Bool) → cond b (Words (peek_from r) (peek_bytes true r) 0) (Refused BadState) ≡ Refused e
-          → cond b (Words (peek_from r) (peek_bytes true r) 0) (Refused BadState) ≡ cond b (Words (peek_from r) (peek_bytes true r) eof) (Refused BadState)
+      go : (b : Bool) → cond b (Ok (record { first = peek_from r; second = peek_bytes true r; third = 0 })) (Err BadState) ≡ Err e
+          → cond b (Ok (record { first = peek_from r; second = peek_bytes true r; third = 0 })) (Err BadState) ≡ cond b (Ok (record { first = peek_from r; second = peek_bytes true r; third = eof })) (Err BadState)
       go true h = cc
       go false h = refl
 
-  pub until-yes : (x y z : ℕ) → peek_said true r len ≡ Words x y z → Until r len x y
+  pub until-yes : (x y z : ℕ) → peek_said true r len ≡ Ok (record { first = x; second = y; third = z }) → Until r len x y
   unfolding peek_said until_eof_said
   until-yes x y z = go (sound In r len) refl
     where
-      go : (b : Bool) → sound In r len ≡ b → cond b (Words (peek_from r) (peek_bytes true r) 0) (Refused BadState) ≡ Words x y z → Until r len x y
+      go : (b : Bool) → sound In r len ≡ b → cond b (Ok (record { first = peek_from r; second = peek_bytes true r; third = 0 })) (Err BadState) ≡ Ok (record { first = x; second = y; third = z }) → Until r len x y
       go true e h =
           let p : x ≡ peek_from r = cc in
           let q : y ≡ peek_bytes true r = cc in
-          record { sound = e; words = λ w k. rw e (ap (λ (v : ℕ). Words v y w) p ∙ ap (λ (v : ℕ). Words (peek_from r) v w) q ∙ ap (λ (v : ℕ). Words (peek_from r) (peek_bytes true r) v) k) }
+          record { sound = e; words = λ w k. rw e (ap (λ (v : ℕ). Ok (record { first = v; second = y; third = w })) p ∙ ap (λ (v : ℕ). Ok (record { first = peek_from r; second = v; third = w })) q ∙ ap (λ (v : ℕ). Ok (record { first = peek_from r; second = peek_bytes true r; third = v })) k) }
       go false e h = absurd (let z : ◌≡◌ {A = ℕ} 0 1 = cc in omega arith)
 
 -- ---- a range cut
@@ -115,13 +111,13 @@ module _ (chip : Chip) (address len : ℕ) where
   abbrev plan : Plan
   plan = plan_for chip address len
 
-  pub cut_parts : (h m t : ℕ) → cut_of chip address len ≡ cut.Parts h m t
+  pub cut_parts : (h m t : ℕ) → cut_of chip address len ≡ Ok (record { head = h; middle = m; tail = t })
       → (ltb top (address + len) ≡ false) × (record { head = h; middle = m; tail = t; bounce = bounce_of chip } ≡ plan)
   unfolding cut_of plan_of
   cut_parts h m t = go (ltb top (address + len)) refl
     where
       go : (b : Bool) → ltb top (address + len) ≡ b
-          → cond b (cut.Refused UnsupportedMemoryRegion) (cut.Parts plan.head plan.middle plan.tail) ≡ cut.Parts h m t
+          → cond b (Err UnsupportedMemoryRegion) (Ok (record { head = plan.head; middle = plan.middle; tail = plan.tail })) ≡ Ok (record { head = h; middle = m; tail = t })
           → (ltb top (address + len) ≡ false) × (record { head = h; middle = m; tail = t; bounce = bounce_of chip } ≡ plan)
       go true e k = absurd (let z : ◌≡◌ {A = ℕ} 0 1 = cc in omega arith)
       go false e k =
@@ -134,12 +130,12 @@ module _ (chip : Chip) (address len : ℕ) where
                 ∙ ap (λ (v : ℕ). record { head = plan.head; middle = plan.middle; tail = v; bounce = bounce_of chip }) s,
           )
 
-  pub cut-past : (e : DmaBufError) → cut_of chip address len ≡ cut.Refused e → (ltb top (address + len) ≡ true) × (e ≡ UnsupportedMemoryRegion)
+  pub cut-past : (e : DmaBufError) → cut_of chip address len ≡ Err e → (ltb top (address + len) ≡ true) × (e ≡ UnsupportedMemoryRegion)
   unfolding cut_of
   cut-past e = go (ltb top (address + len)) refl
     where
       go : (b : Bool) → ltb top (address + len) ≡ b
-          → cond b (cut.Refused UnsupportedMemoryRegion) (cut.Parts plan.head plan.middle plan.tail) ≡ cut.Refused e
+          → cond b (Err UnsupportedMemoryRegion) (Ok (record { head = plan.head; middle = plan.middle; tail = plan.tail })) ≡ Err e
           → (ltb top (address + len) ≡ true) × (e ≡ UnsupportedMemoryRegion)
       go true f k = (f, cc)
       go false f k = absurd (let z : ◌≡◌ {A = ℕ} 0 1 = cc in omega arith)
@@ -149,9 +145,9 @@ module _ (chip : Chip) (address len : ℕ) where
 
 -- ---- a call that is refused first of all, or goes on
 
-pub said-not : (b : Bool) (an : List ℕ) (s : Said) → b ≡ false → (5 ≡ said_number (ready_said b s)) × (an ≡ said_in an (ready_said b s))
+pub said-not : (b : Bool) (an : List ℕ) (s : Answer Said) → b ≡ false → (5 ≡ said_number (ready_said b s)) × (an ≡ said_in an (ready_said b s))
 said-not b an s n = (rw n, rw n)
 
-pub said-ready : (b : Bool) (an : List ℕ) (s said : Said) (k : ℕ) (an' : List ℕ) → b ≡ true → said ≡ s → k ≡ said_number said → an' ≡ said_in an said
+pub said-ready : (b : Bool) (an : List ℕ) (s said : Answer Said) (k : ℕ) (an' : List ℕ) → b ≡ true → said ≡ s → k ≡ said_number said → an' ≡ said_in an said
     → (k ≡ said_number (ready_said b s)) × (an' ≡ said_in an (ready_said b s))
 said-ready b an s said k an' y p q r = (rw y (q ∙ ap said_number p), rw y (r ∙ ap (said_in an) p))

@@ -1,11 +1,11 @@
 -- What a call does to a ring whose head was read from words, said of the words.
-use Rattle.std.specs.Prelude.{ℕ, ◌≡◌, Bool, List}
+use Rattle.std.specs.Prelude.{ℕ, ◌≡◌, Bool, List, Option}
 use Rattle.std.proofs.Common.{◌∙◌, ap}
 use Rattle.descriptors.specs.Ring.{Ring, ring_of}
 use Rattle.descriptors.specs.declared.ring.Head.{Head}
-use Rattle.descriptors.specs.declared.record.Next.{Next}
 use Rattle.capi.specs.Words.{head_in, head_now, lent_ring, next_in, place_now}
 use Rattle.capi.specs.Answer.{said_number, said_in}
+use Rattle.descriptors.specs.Refusal.{Answer}
 use Rattle.capi.specs.declared.answer.Said.{Said}
 
 module _ (st ws hw : List ℕ) (test ready : Bool) (h : Head) (e : ready ≡ test) (eh : h ≡ head_in ready hw) where
@@ -19,23 +19,23 @@ module _ (st ws hw : List ℕ) (test ready : Bool) (h : Head) (e : ready ≡ tes
       → hw' ≡ head_now test hw (f (lent_ring test hw st ws))
   head-lent f after hw' p q = q ∙ ap (λ (b : Bool). head_now b hw after) e ∙ ap (head_now test hw) (lent f after p)
 
-  pub said-lent : (f : Ring → Said) (an : List ℕ) (said : Said) (n : ℕ) (an' : List ℕ) → said ≡ f (ring_of st ws h)
+  pub said-lent : (f : Ring → (Answer Said)) (an : List ℕ) (said : Answer Said) (n : ℕ) (an' : List ℕ) → said ≡ f (ring_of st ws h)
       → n ≡ said_number said → an' ≡ said_in an said
       → (n ≡ said_number (f (lent_ring test hw st ws))) × (an' ≡ said_in an (f (lent_ring test hw st ws)))
   said-lent f an said n an' p q r = (q ∙ ap said_number (lent f said p), r ∙ ap (said_in an) (lent f said p))
 
 -- ---- a step: the device's place is read from a word as well
 
-module _ (st ws hw dw : List ℕ) (test ready : Bool) (h : Head) (d : Next) (e : ready ≡ test) (eh : h ≡ head_in ready hw) (ed : d ≡ next_in ready dw) where
-  pub step-lent : {B : Type 0} (f : Ring → Next → B) (x : B) → x ≡ f (ring_of st ws h) d → x ≡ f (lent_ring test hw st ws) (next_in test dw)
+module _ (st ws hw dw : List ℕ) (test ready : Bool) (h : Head) (d : Option ℕ) (e : ready ≡ test) (eh : h ≡ head_in ready hw) (ed : d ≡ next_in ready dw) where
+  pub step-lent : {B : Type 0} (f : Ring → Option ℕ → B) (x : B) → x ≡ f (ring_of st ws h) d → x ≡ f (lent_ring test hw st ws) (next_in test dw)
   step-lent f x p =
       p ∙ ap (λ (r : Ring). f r d) (ring-lent st ws hw test ready h e eh) ∙ ap (f (lent_ring test hw st ws)) (ed ∙ ap (λ (b : Bool). next_in b dw) e)
 
-  pub place-lent : (f : Ring → Next → Next) (after : Next) (dw' : List ℕ) → after ≡ f (ring_of st ws h) d → dw' ≡ place_now ready dw after
+  pub place-lent : (f : Ring → Option ℕ → (Option ℕ)) (after : Option ℕ) (dw' : List ℕ) → after ≡ f (ring_of st ws h) d → dw' ≡ place_now ready dw after
       → dw' ≡ place_now test dw (f (lent_ring test hw st ws) (next_in test dw))
   place-lent f after dw' p q = q ∙ ap (λ (b : Bool). place_now b dw after) e ∙ ap (place_now test dw) (step-lent f after p)
 
-  pub step-said : (f : Ring → Next → Said) (an : List ℕ) (said : Said) (n : ℕ) (an' : List ℕ) → said ≡ f (ring_of st ws h) d
+  pub step-said : (f : Ring → Option ℕ → (Answer Said)) (an : List ℕ) (said : Answer Said) (n : ℕ) (an' : List ℕ) → said ≡ f (ring_of st ws h) d
       → n ≡ said_number said → an' ≡ said_in an said
       → (n ≡ said_number (f (lent_ring test hw st ws) (next_in test dw))) × (an' ≡ said_in an (f (lent_ring test hw st ws) (next_in test dw)))
   step-said f an said n an' p q r = (q ∙ ap said_number (step-lent f said p), r ∙ ap (said_in an) (step-lent f said p))

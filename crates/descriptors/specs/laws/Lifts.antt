@@ -1,5 +1,5 @@
 -- A store to a cell, as a change of the records that the words show.
-use Rattle.std.specs.Prelude.{◌≡◌, ℕ, zero, suc, ◌+◌, ◌*◌, ◌<◌, ◌≤◌, Bool, true, false, cond, ◌&&◌, List, [], length, ◌==◌, ◌≢◌, nat_le, nat_lt, slice_index, slice_index_or, slice_set, refl}
+use Rattle.std.specs.Prelude.{◌≡◌, ℕ, zero, suc, ◌+◌, ◌*◌, ◌<◌, ◌≤◌, Bool, true, false, cond, ◌&&◌, List, [], length, ◌==◌, ◌≢◌, nat_le, nat_lt, slice_index, slice_index_or, slice_set, refl, Option}
 use Rattle.std.proofs.Common.{sym, ◌∙◌, ap, arith, eqb-true, leb-true, lt-ltb, le-ltb, le-leb, eq-eqb, length-set, get_or-set_same, get_or-set_other, ext_get_or}
 use Rattle.std.proofs.Math.Decide.{dec_lt, ℕ_discrete}
 use Rattle.std.proofs.Math.ListN.{get_or-eq_default}
@@ -13,7 +13,6 @@ use Rattle.descriptors.specs.laws.Tests.{and_split, and-join, all-at, all_of}
 use Rattle.descriptors.specs.laws.Updates.{update_same, update_other, update-length}
 use Rattle.descriptors.specs.declared.record.Owner.{Owner}
 use Rattle.descriptors.specs.declared.record.Owner.TheVariants.{Cpu, Dma}
-use Rattle.descriptors.specs.declared.record.Next.{Next}
 use Rattle.descriptors.specs.declared.record.DmaDescriptor.{DmaDescriptor}
 
 -- ---- what words that hold records have
@@ -186,7 +185,7 @@ length-lifts st i v =
     let k = same-record 1 ws i v w (omega arith) l in
     rw (k 0 (λ z. omega arith), cell_same 1 ws i v w (omega arith) l, k 2 (λ z. omega arith), k 3 (λ z. omega arith), k 4 (λ z. omega arith)) refl)
 
-pub next-lifts : (st : List ℕ) (i : ℕ) (x : Next) → numbered x ≡ true → Lifts st (λ ws. put_next ws i x) (λ ds. update ds i (with_next x))
+pub next-lifts : (st : List ℕ) (i : ℕ) (x : Option ℕ) → numbered x ≡ true → Lifts st (λ ws. put_next ws i x) (λ ds. update ds i (with_next x))
 next-lifts st i x n ws a =
     rw n
     (put-lifts st 2 i (next_cell x) (with_next x) (omega arith) (λ z. absurd (omega arith)) (λ ws w l.

@@ -1,11 +1,9 @@
 -- What a cell says of a mark, a next and an owner.
-use Rattle.std.specs.Prelude.{◌≡◌, ℕ, zero, suc, ◌-◌, ◌≤◌, Bool, true, false, ◌≢◌, refl}
+use Rattle.std.specs.Prelude.{◌≡◌, ℕ, zero, suc, ◌-◌, ◌≤◌, Bool, true, false, ◌≢◌, refl, Some, None, Option}
 use Rattle.std.proofs.Common.{arith, add-one}
 use Rattle.descriptors.specs.Cells.{owner_of, eof_of, next_of, owner_cell, eof_cell, next_cell}
 use Rattle.descriptors.specs.declared.record.Owner.{Owner}
 use Rattle.descriptors.specs.declared.record.Owner.TheVariants.{Cpu, Dma}
-use Rattle.descriptors.specs.declared.record.Next.{Next}
-use Rattle.descriptors.specs.declared.record.Next.TheVariants.{Nothing, At}
 
 pub owner-some : (x : ℕ) → (x ≢ 0) → Dma ≡ owner_of x
 owner-some zero h = absurd (h refl)
@@ -15,7 +13,7 @@ pub eof-some : (x : ℕ) → (x ≢ 0) → true ≡ eof_of x
 eof-some zero h = absurd (h refl)
 eof-some (suc k) h = refl
 
-pub next-some : (x : ℕ) → (x ≢ 0) → At (x - 1) ≡ next_of x
+pub next-some : (x : ℕ) → (x ≢ 0) → Some (x - 1) ≡ next_of x
 next-some zero h = absurd (h refl)
 next-some (suc k) h = let e : suc k - 1 ≡ k = omega arith in rw e
 
@@ -28,9 +26,9 @@ pub eof-read : (e : Bool) → eof_of (eof_cell e) ≡ e
 eof-read true = refl
 eof-read false = refl
 
-pub next-read : (x : Next) → next_of (next_cell x) ≡ x
-next-read Nothing = refl
-next-read (At j) = rw (add-one j) refl
+pub next-read : (x : Option ℕ) → next_of (next_cell x) ≡ x
+next-read None = refl
+next-read (Some j) = rw (add-one j) refl
 
 -- and a cell that was read is written again as it was
 pub owner-kept : (x : ℕ) → x ≤ 1 → owner_cell (owner_of x) ≡ x

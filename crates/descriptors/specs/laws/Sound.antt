@@ -1,5 +1,5 @@
 -- What the scans of the cells say of the records, and what is known of a ring that is sound.
-use Rattle.std.specs.Prelude.{◌≡◌, ℕ, zero, suc, ◌+◌, ◌-◌, ◌*◌, ◌/◌, ◌%◌, ◌<◌, ◌≤◌, Bool, true, false, ◌&&◌, ◌||◌, leb, List, [], ◌==◌, nat_eq, nat_le, nat_lt, slice_index, refl}
+use Rattle.std.specs.Prelude.{◌≡◌, ℕ, zero, suc, ◌+◌, ◌-◌, ◌*◌, ◌/◌, ◌%◌, ◌<◌, ◌≤◌, Bool, true, false, ◌&&◌, ◌||◌, leb, List, [], ◌==◌, nat_eq, nat_le, nat_lt, slice_index, refl, Ok, Err}
 use Rattle.std.proofs.Common.{sym, ◌∙◌, ap, arith, ltb-true, ltb-false, leb-true, eqb-true, eq-eqb, ne_eqb, le-leb, lt-ltb}
 use Rattle.std.proofs.lemmas.Bool.{lt-leb}
 use Rattle.descriptors.specs.Record.{limit, least, record_in, is_cpu, span_of}
@@ -13,9 +13,8 @@ use Rattle.descriptors.specs.declared.record.DmaDescriptor.{DmaDescriptor}
 use Rattle.descriptors.specs.declared.record.TransferDirection.{TransferDirection}
 use Rattle.descriptors.specs.declared.record.TransferDirection.TheVariants.{In, Out}
 use Rattle.descriptors.specs.declared.ring.Head.{Head}
+use Rattle.descriptors.specs.Refusal.{Answer}
 use Rattle.descriptors.specs.declared.refusal.DmaBufError.{DmaBufError}
-use Rattle.descriptors.specs.declared.refusal.Done.{Done}
-use Rattle.descriptors.specs.declared.refusal.Done.TheVariants.{Ready, Refused}
 
 -- ---- the scans
 
@@ -213,16 +212,16 @@ offset-dma Out d o h e = go (o == 0) refl (and_split (nat_lt o d.size) _ h).1
     go false q h = not-both (sym e ∙ h)
 
 -- what an answer of the judge tells
-pub ready-split : (b : Bool) (d : Done) → d ≡ judged b → d ≡ Ready → b ≡ true
-ready-split true d p q = refl
-ready-split false d p q = not-both (let z : judged false ≡ Ready = sym p ∙ q in cc)
+pub ready-split : (b : Bool) (d : Answer Unit) (u : Unit) → d ≡ judged b → d ≡ Ok u → b ≡ true
+ready-split true d u p q = refl
+ready-split false d u p q = not-both (let z : judged false ≡ Ok u = sym p ∙ q in cc)
 
-pub refused-split : (dir : TransferDirection) (r : Ring) (len : ℕ) (d : Done) (e : DmaBufError) → d ≡ judged (split_sound r len) → d ≡ Refused e
+pub refused-split : (dir : TransferDirection) (r : Ring) (len : ℕ) (d : Answer Unit) (e : DmaBufError) → d ≡ judged (split_sound r len) → d ≡ Err e
     → sound dir r len ≡ split_sound r len
 unfolding sound
 refused-split dir r len d e p q = go (split_sound r len) refl
   where
     go : (b : Bool) → split_sound r len ≡ b
         → (b && (lengths_ok r.descriptors r.count && (nexts_ok r.descriptors r.count && (nat_lt r.idx r.count && offset_ok dir (record_of r r.idx) r.offset)))) ≡ b
-    go true h = not-both (let z : judged true ≡ Refused e = ap judged (sym h) ∙ sym p ∙ q in cc)
+    go true h = not-both (let z : judged true ≡ Err e = ap judged (sym h) ∙ sym p ∙ q in cc)
     go false h = refl

@@ -1,13 +1,13 @@
 -- The split: its starts, and what `new` accepts.
-use Rattle.std.specs.Prelude.{◌≡◌, ℕ, ◌+◌, ◌*◌, ◌/◌, ◌%◌, ◌<◌, ◌≤◌, Bool, true, false, cond, ◌==◌, nat_le, nat_lt, refl}
-use Rattle.std.proofs.Common.{◌∙◌, ap, arith, one-mul, add-mul, mul-le-mul_right, ltb-false}
+use Rattle.std.specs.Prelude.{◌≡◌, ℕ, ◌+◌, ◌*◌, ◌/◌, ◌%◌, ◌<◌, ◌≤◌, Bool, true, false, cond, ◌==◌, nat_le, nat_lt, refl, Ok, Err}
+use Rattle.std.proofs.Common.{◌∙◌, ap, sym, arith, one-mul, add-mul, mul-le-mul_right, ltb-false}
 use Rattle.std.proofs.Math.Nat.{div-add-mod}
 use Rattle.std.proofs.lemmas.Bool.{eqb-false}
 use Rattle.descriptors.specs.Record.{limit, least, most}
 use Rattle.descriptors.specs.Split.{split_of, is_parts, accepts, start_of, size_of}
 use Rattle.descriptors.specs.laws.Tests.{not-both}
 use Rattle.descriptors.specs.declared.split.Split.{Split}
-use Rattle.descriptors.specs.declared.split.Split.TheVariants.{Parts, Refused}
+use Rattle.descriptors.specs.Refusal.{Answer}
 use Rattle.descriptors.specs.declared.refusal.DmaBufError.{DmaBufError}
 
 pub next_start : (i q : ℕ) → (i + 1) * q ≡ i * q + q
@@ -23,10 +23,10 @@ pub record Accepted (n len : ℕ) : Type 0 where
   pub some : 0 < len / n
   pub chunk : len / n ≤ most
   pub last : len / n + len % n ≤ most
-  pub parts : split_of n len ≡ Parts (len / n) (len % n)
+  pub parts : split_of n len ≡ Ok (record { chunk = len / n; rest = len % n })
 
 -- a test that is passed over
-skip : (b : Bool) (e : DmaBufError) (x : Split) → is_parts (cond b (Refused e) x) ≡ true → (b ≡ false) × (is_parts x ≡ true) × (cond b (Refused e) x ≡ x)
+skip : (b : Bool) (e : DmaBufError) (x : Answer Split) → is_parts (cond b (Err e) x) ≡ true → (b ≡ false) × (is_parts x ≡ true) × (cond b (Err e) x ≡ x)
 skip true e x h = not-both h
 skip false e x h = (refl, h, refl)
 
@@ -48,6 +48,15 @@ accepted n len h =
       parts = a.2 ∙ b.2 ∙ c.2 ∙ d.2 ∙ e.2 ∙ f.2;
     }
 
+-- the numbers of an answer
+chunk_in : Answer Split → ℕ
+chunk_in (Ok x) = x.chunk
+chunk_in (Err e) = 0
+
+rest_in : Answer Split → ℕ
+rest_in (Ok x) = x.rest
+rest_in (Err e) = 0
+
 pub record Known (n len chunk rest : ℕ) : Type 0 where
   pub takes : accepts n len ≡ true
   pub facts : Accepted n len
@@ -55,12 +64,13 @@ pub record Known (n len chunk rest : ℕ) : Type 0 where
   pub rest-is : rest ≡ len % n
 
 -- what the answer of `split_of` tells
-pub parts-known : (n len chunk rest : ℕ) → split_of n len ≡ Parts chunk rest → Known n len chunk rest
-parts-known n len chunk rest e =
+pub parts-known : (n len : ℕ) (s : Split) → split_of n len ≡ Ok s → Known n len s.chunk s.rest
+unfolding chunk_in rest_in
+parts-known n len s e =
     let t : accepts n len ≡ true = ap is_parts e in
     let a = accepted n len t in
     let q = a.parts in
-    record { takes = t; facts = a; chunk-is = cc; rest-is = cc }
+    record { takes = t; facts = a; chunk-is = ap chunk_in (sym e ∙ q); rest-is = ap rest_in (sym e ∙ q) }
 
 -- record i's part lies in the buffer
 pub place-fits : (n len i : ℕ) → i < n → start_of n len i + size_of n len i ≤ len

@@ -1,5 +1,5 @@
 -- The transitions on the cells are those of the records.
-use Rattle.std.specs.Prelude.{◌≡◌, ℕ, zero, suc, ◌+◌, ◌/◌, ◌<◌, ◌≤◌, Bool, true, false, cond, List, ◌==◌, refl}
+use Rattle.std.specs.Prelude.{◌≡◌, ℕ, zero, suc, ◌+◌, ◌/◌, ◌<◌, ◌≤◌, Bool, true, false, cond, List, ◌==◌, refl, Some, None}
 use Rattle.std.proofs.Common.{sym, ◌∙◌, ap, arith, lt-ltb, le-leb}
 use Rattle.descriptors.specs.Record.{limit, is_in, update, up_to, with_owner, with_eof, with_length, with_next, with_size, with_buffer, given, queued, following, linked, handed}
 use Rattle.descriptors.specs.Place.{before, turns}
@@ -12,7 +12,6 @@ use Rattle.descriptors.specs.laws.Tests.{not-both}
 use Rattle.descriptors.specs.laws.Updates.{update_twice, each, two-passes}
 use Rattle.descriptors.specs.laws.Lifts.{Lifts, record_is, records-length, size-lifts, length-lifts, eof-lifts, owner-lifts, next-lifts, start-changes, lifts-then, lifts-as, lifts-up, lifts-turns}
 use Rattle.descriptors.specs.declared.record.Owner.TheVariants.{Dma}
-use Rattle.descriptors.specs.declared.record.Next.TheVariants.{Nothing, At}
 use Rattle.descriptors.specs.declared.record.DmaDescriptor.{DmaDescriptor}
 use Rattle.descriptors.specs.declared.record.TransferDirection.{TransferDirection}
 use Rattle.descriptors.specs.declared.record.TransferDirection.TheVariants.{In, Out}
@@ -28,10 +27,10 @@ lifts-more st F G i f g p q =
 
 handed-in : (st : List ℕ) (i : ℕ) → Lifts st (handed_cells In i) (λ ds. update ds i given)
 handed-in st i =
-    lifts-more st (λ ws. put_length (put_eof (put_owner ws i Dma) i false) i 0) (λ ws. put_next ws i Nothing) i (λ d. with_length 0 (with_eof false (with_owner Dma d))) (with_next Nothing)
+    lifts-more st (λ ws. put_length (put_eof (put_owner ws i Dma) i false) i 0) (λ ws. put_next ws i None) i (λ d. with_length 0 (with_eof false (with_owner Dma d))) (with_next None)
     (lifts-more st (λ ws. put_eof (put_owner ws i Dma) i false) (λ ws. put_length ws i 0) i (λ d. with_eof false (with_owner Dma d)) (with_length 0)
     (lifts-more st (λ ws. put_owner ws i Dma) (λ ws. put_eof ws i false) i (with_owner Dma) (with_eof false) (owner-lifts st i Dma) (eof-lifts st i false)) (length-lifts st i 0))
-    (next-lifts st i Nothing refl)
+    (next-lifts st i None refl)
 
 -- the length is the size that the record shows
 full-length : (st : List ℕ) (i : ℕ) → Lifts st (λ ws. put_length (put_owner ws i Dma) i (cell 0 ws i)) (λ ds. update ds i (λ d. with_length d.size (with_owner Dma d)))
@@ -41,22 +40,22 @@ full-length st i ws a =
 
 handed_out : (st : List ℕ) (i : ℕ) → Lifts st (handed_cells Out i) (λ ds. update ds i queued)
 handed_out st i =
-    lifts-more st (λ ws. put_eof (put_length (put_owner ws i Dma) i (cell 0 ws i)) i true) (λ ws. put_next ws i Nothing) i (λ d. with_eof true (with_length d.size (with_owner Dma d))) (with_next Nothing)
+    lifts-more st (λ ws. put_eof (put_length (put_owner ws i Dma) i (cell 0 ws i)) i true) (λ ws. put_next ws i None) i (λ d. with_eof true (with_length d.size (with_owner Dma d))) (with_next None)
     (lifts-more st (λ ws. put_length (put_owner ws i Dma) i (cell 0 ws i)) (λ ws. put_eof ws i true) i (λ d. with_length d.size (with_owner Dma d)) (with_eof true) (full-length st i) (eof-lifts st i true))
-    (next-lifts st i Nothing refl)
+    (next-lifts st i None refl)
 
 pub handed-lifts : (dir : TransferDirection) (st : List ℕ) (i : ℕ) → Lifts st (handed_cells dir i) (λ ds. update ds i (handed dir))
 handed-lifts In st i = handed-in st i
 handed-lifts Out st i = handed_out st i
 
-small-number : (i : ℕ) → i < 65535 → numbered (At i) ≡ true
+small-number : (i : ℕ) → i < 65535 → numbered (Some i) ≡ true
 small-number i h = lt-ltb i 65535 h
 
 pub hand-lifts : (dir : TransferDirection) (st : List ℕ) (n i : ℕ) → i < 65535 → Lifts st (hand_cells dir n i) (hand_over dir n i)
 unfolding hand_cells hand_over
 hand-lifts dir st n i h =
-    lifts-then st (handed_cells dir i) (λ ws. put_next ws (before n i) (At i)) (λ ds. update ds i (handed dir)) (λ ds. update ds (before n i) (with_next (At i)))
-    (handed-lifts dir st i) (next-lifts st (before n i) (At i) (small-number i h))
+    lifts-then st (handed_cells dir i) (λ ws. put_next ws (before n i) (Some i)) (λ ds. update ds i (handed dir)) (λ ds. update ds (before n i) (with_next (Some i)))
+    (handed-lifts dir st i) (next-lifts st (before n i) (Some i) (small-number i h))
 
 -- g records handed over, from record i on
 pub run-lifts : (dir : TransferDirection) (st : List ℕ) (n g i : ℕ) → n ≤ limit → i < n → Lifts st (turns (hand_cells dir n) n g i) (turns (hand_over dir n) n g i)
@@ -67,7 +66,7 @@ run-lifts dir st n g i m h = lifts-turns st (hand_cells dir n) (hand_over dir n)
 following-small : (n i : ℕ) → i < n → n ≤ limit → numbered (following n i) ≡ true
 following-small n i h m = go (i + 1 == n)
   where
-    go : (b : Bool) → numbered (cond b Nothing (At (i + 1))) ≡ true
+    go : (b : Bool) → numbered (cond b None (Some (i + 1))) ≡ true
     go true = refl
     go false = lt-ltb (i + 1) 65535 (omega arith)
 

@@ -1,5 +1,5 @@
 -- The three ways of a receive step.
-use Rattle.std.specs.Prelude.{ℕ, ◌+◌, ◌≤◌, ◌≡◌, Bool, List, ltb, length}
+use Rattle.std.specs.Prelude.{ℕ, ◌+◌, ◌≤◌, ◌≡◌, Bool, List, ltb, length, Ok, Err, Option}
 use Rattle.std.proofs.Math.Path.{refl, sym, ap}
 use Rattle.std.proofs.Common.{◌∙◌, arith, leb-true}
 use Rattle.std.proofs.Math.Bool.{true, false}
@@ -15,17 +15,13 @@ use Rattle.device.specs.Device.{Stepped, stand_of, fits, receive_by, receive_of,
 use Rattle.device.specs.Faces.{stand_done, close_cells, ReceivedIn}
 use Rattle.device.specs.laws.Steps.{found, part-fits, part_small, words-held, seen}
 use Rattle.descriptors.specs.declared.record.Owner.TheVariants.{Cpu}
-use Rattle.descriptors.specs.declared.record.Next.{Next}
 use Rattle.descriptors.specs.declared.record.DmaDescriptor.{DmaDescriptor}
 use Rattle.descriptors.specs.declared.record.TransferDirection.TheVariants.{In}
 use Rattle.descriptors.specs.declared.refusal.DmaBufError.{DmaBufError}
 use Rattle.descriptors.specs.declared.refusal.DmaBufError.TheVariants.{BadStep}
-use Rattle.descriptors.specs.declared.refusal.Done.{Done}
-use Rattle.descriptors.specs.declared.refusal.Done.TheVariants as done
 use Rattle.descriptors.specs.declared.ring.Head.{Head}
+use Rattle.descriptors.specs.Refusal.{Answer}
 use Rattle.device.specs.declared.receive.Received.{Received}
-use Rattle.device.specs.declared.stand.Stand.{Stand}
-use Rattle.device.specs.declared.stand.Stand.TheVariants as stand
 
 -- a record closed, by its three stores
 pub close-stores : (i k : ℕ) (eof : Bool) (ws a b c : List ℕ) → a ≡ put_length ws i k → b ≡ put_eof a i eof → c ≡ put_owner b i Cpu → c ≡ close_cells i k eof ws
@@ -36,9 +32,9 @@ close-lifts st i k eof =
     lifts-more st (λ ws. put_eof (put_length ws i k) i eof) (λ ws. put_owner ws i Cpu) i (λ d. with_eof eof (with_length k d)) (with_owner Cpu)
     (lifts-more st (λ ws. put_length ws i k) (λ ws. put_eof ws i eof) i (with_length k) (with_eof eof) (length-lifts st i k) (eof-lifts st i eof)) (owner-lifts st i Cpu)
 
-module _ (st ws : List ℕ) (h : Head) (dev : Next) (bytes bs : List ℕ) (eof : Bool) where
+module _ (st ws : List ℕ) (h : Head) (dev : Option ℕ) (bytes bs : List ℕ) (eof : Bool) where
   -- an outcome that leaves the words and the bytes as they are
-  kept : (r : Received) (o : Stepped Done) → receive_of (ring_of st ws h) dev (length bytes) (length bs) eof ≡ o → o.ring.descriptors ≡ records_of st ws
+  kept : (r : Received) (o : Stepped (Answer Unit)) → receive_of (ring_of st ws h) dev (length bytes) (length bs) eof ≡ o → o.ring.descriptors ≡ records_of st ws
       → receive_into (ring_of st ws h) dev bytes bs ≡ bytes → r.device ≡ o.device → r.answer ≡ o.answer → ReceivedIn st ws h dev bytes bs eof ws bytes r
   kept r o e d b x a =
       record {
@@ -48,23 +44,23 @@ module _ (st ws : List ℕ) (h : Head) (dev : Next) (bytes bs : List ℕ) (eof :
         answer = rw e a;
       }
 
-  pub receive-refused : (x : Stand) (e : DmaBufError) (a : Done) → x ≡ stand_of In (ring_of st ws h) (length bytes) dev → x ≡ stand.Refused e → a ≡ stand_done x
+  pub receive-refused : (x : Answer ℕ) (e : DmaBufError) (a : Answer Unit) → x ≡ stand_of In (ring_of st ws h) (length bytes) dev → x ≡ Err e → a ≡ stand_done x
       → ReceivedIn st ws h dev bytes bs eof ws bytes (record { device = dev; answer = a })
   unfolding receive_of receive_into
   receive-refused x e a ex p q =
-      let s : stand_of In (ring_of st ws h) (length bytes) dev ≡ stand.Refused e = sym ex ∙ p in
-      kept (record { device = dev; answer = a }) (record { ring = ring_of st ws h; device = dev; answer = done.Refused e })
+      let s : stand_of In (ring_of st ws h) (length bytes) dev ≡ Err e = sym ex ∙ p in
+      kept (record { device = dev; answer = a }) (record { ring = ring_of st ws h; device = dev; answer = Err e })
       (ap (receive_by (ring_of st ws h) dev (length bs) eof) s) refl (ap (receive_into_by (ring_of st ws h) bytes bs) s) refl (q ∙ ap stand_done p)
 
-  module _ (i : ℕ) (p : stand_of In (ring_of st ws h) (length bytes) dev ≡ stand.On i) where
+  module _ (i : ℕ) (p : stand_of In (ring_of st ws h) (length bytes) dev ≡ Ok i) where
     shown : record_of (ring_of st ws h) i ≡ record_at st ws i
     shown = seen In st ws h (length bytes) dev i p
 
-    pub receive-unfit : fits (length bs) (record_at st ws i) ≡ false → ReceivedIn st ws h dev bytes bs eof ws bytes (record { device = dev; answer = done.Refused BadStep })
+    pub receive-unfit : fits (length bs) (record_at st ws i) ≡ false → ReceivedIn st ws h dev bytes bs eof ws bytes (record { device = dev; answer = Err BadStep })
     unfolding receive_of receive_into
     receive-unfit f =
         let x : fits (length bs) (record_of (ring_of st ws h) i) ≡ false = ap (fits (length bs)) shown ∙ f in
-        kept (record { device = dev; answer = done.Refused BadStep }) (record { ring = ring_of st ws h; device = dev; answer = done.Refused BadStep })
+        kept (record { device = dev; answer = Err BadStep }) (record { ring = ring_of st ws h; device = dev; answer = Err BadStep })
         (ap (receive_by (ring_of st ws h) dev (length bs) eof) p ∙ rw x) refl (ap (receive_into_by (ring_of st ws h) bytes bs) p ∙ rw x) refl refl
 
     module _ (f : fits (length bs) (record_at st ws i) ≡ true) where
@@ -78,14 +74,14 @@ module _ (st ws : List ℕ) (h : Head) (dev : Next) (bytes bs : List ℕ) (eof :
       pub receive-small : length bs ≤ most
       receive-small = omega (arith, fits-size, rw shown at (part_small In (ring_of st ws h) (length bytes) dev i (found In (ring_of st ws h) (length bytes) dev i p)))
 
-      pub receive-done : (x : Next) (at : ℕ) (ws' bytes' : List ℕ) → x ≡ next_of (cell 2 ws i) → at ≡ start_at st i → bytes' ≡ paste bytes at bs (length bs) → ws' ≡ close_cells i (length bs) eof ws
-          → ReceivedIn st ws h dev bytes bs eof ws' bytes' (record { device = x; answer = done.Ready })
+      pub receive-done : (x : Option ℕ) (at : ℕ) (ws' bytes' : List ℕ) → x ≡ next_of (cell 2 ws i) → at ≡ start_at st i → bytes' ≡ paste bytes at bs (length bs) → ws' ≡ close_cells i (length bs) eof ws
+          → ReceivedIn st ws h dev bytes bs eof ws' bytes' (record { device = x; answer = Ok tt })
       unfolding receive_of receive_into
       receive-done x at ws' bytes' ex ea eb ew =
           let r : Ring = ring_of st ws h in
           let g : fits (length bs) (record_of r i) ≡ true = ap (fits (length bs)) shown ∙ f in
           let o : receive_by r dev (length bs) eof (stand_of In r (length bytes) dev)
-          ≡ record { ring = with_records r (update (records_of st ws) i (closed (length bs) eof)); device = (record_of r i).next; answer = done.Ready } =
+          ≡ record { ring = with_records r (update (records_of st ws) i (closed (length bs) eof)); device = (record_of r i).next; answer = Ok tt } =
           ap (receive_by r dev (length bs) eof) p ∙ rw g in
           let w = words-held In st ws h (length bytes) dev i p in
           let c = close-lifts st i (length bs) eof ws w in

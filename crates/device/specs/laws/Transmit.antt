@@ -1,5 +1,5 @@
 -- The three ways of a transmit step.
-use Rattle.std.specs.Prelude.{ℕ, ◌+◌, ◌≤◌, ◌<◌, ◌≡◌, List, ◌++◌, length, take, drop}
+use Rattle.std.specs.Prelude.{ℕ, ◌+◌, ◌≤◌, ◌<◌, ◌≡◌, List, ◌++◌, length, take, drop, Ok, Err, Option}
 use Rattle.std.proofs.Math.Path.{refl, sym, ap}
 use Rattle.std.proofs.Common.{◌∙◌, arith, le-leb}
 use Rattle.std.proofs.Math.Bool.{true, false}
@@ -15,21 +15,17 @@ use Rattle.device.specs.Device.{Stepped, stand_of, transmit_by, transmit_of, tra
 use Rattle.device.specs.Faces.{stand_counted, SentIn}
 use Rattle.device.specs.laws.Steps.{found, part-fits, words-held, seen}
 use Rattle.descriptors.specs.declared.record.Owner.TheVariants.{Cpu}
-use Rattle.descriptors.specs.declared.record.Next.{Next}
 use Rattle.descriptors.specs.declared.record.DmaDescriptor.{DmaDescriptor}
 use Rattle.descriptors.specs.declared.record.TransferDirection.TheVariants.{Out}
 use Rattle.descriptors.specs.declared.refusal.DmaBufError.{DmaBufError}
 use Rattle.descriptors.specs.declared.refusal.DmaBufError.TheVariants.{BadState}
-use Rattle.descriptors.specs.declared.refusal.Counted.{Counted}
-use Rattle.descriptors.specs.declared.refusal.Counted.TheVariants as counted
 use Rattle.descriptors.specs.declared.ring.Head.{Head}
+use Rattle.descriptors.specs.Refusal.{Answer}
 use Rattle.device.specs.declared.transmit.Sent.{Sent}
-use Rattle.device.specs.declared.stand.Stand.{Stand}
-use Rattle.device.specs.declared.stand.Stand.TheVariants as stand
 
-module _ (st ws : List ℕ) (h : Head) (dev : Next) (bytes out : List ℕ) where
+module _ (st ws : List ℕ) (h : Head) (dev : Option ℕ) (bytes out : List ℕ) where
   -- an outcome that leaves the words and the output as they are
-  kept : (r : Sent) (o : Stepped Counted) → transmit_of (ring_of st ws h) dev (length bytes) (length out) ≡ o → o.ring.descriptors ≡ records_of st ws
+  kept : (r : Sent) (o : Stepped (Answer ℕ)) → transmit_of (ring_of st ws h) dev (length bytes) (length out) ≡ o → o.ring.descriptors ≡ records_of st ws
       → transmit_over (ring_of st ws h) dev bytes out ≡ out → r.device ≡ o.device → r.answer ≡ o.answer → SentIn st ws h dev bytes out ws out r
   kept r o e d b x a =
       record {
@@ -39,15 +35,15 @@ module _ (st ws : List ℕ) (h : Head) (dev : Next) (bytes out : List ℕ) where
         answer = rw e a;
       }
 
-  pub transmit-refused : (x : Stand) (e : DmaBufError) (a : Counted) → x ≡ stand_of Out (ring_of st ws h) (length bytes) dev → x ≡ stand.Refused e → a ≡ stand_counted x
+  pub transmit-refused : (x : Answer ℕ) (e : DmaBufError) (a : Answer ℕ) → x ≡ stand_of Out (ring_of st ws h) (length bytes) dev → x ≡ Err e → a ≡ stand_counted x
       → SentIn st ws h dev bytes out ws out (record { device = dev; answer = a })
   unfolding transmit_of transmit_over
   transmit-refused x e a ex p q =
-      let s : stand_of Out (ring_of st ws h) (length bytes) dev ≡ stand.Refused e = sym ex ∙ p in
-      kept (record { device = dev; answer = a }) (record { ring = ring_of st ws h; device = dev; answer = counted.Refused e })
+      let s : stand_of Out (ring_of st ws h) (length bytes) dev ≡ Err e = sym ex ∙ p in
+      kept (record { device = dev; answer = a }) (record { ring = ring_of st ws h; device = dev; answer = Err e })
       (ap (transmit_by (ring_of st ws h) dev (length out)) s) refl (ap (transmit_over_by (ring_of st ws h) bytes out) s) refl (q ∙ ap stand_counted p)
 
-  module _ (i : ℕ) (p : stand_of Out (ring_of st ws h) (length bytes) dev ≡ stand.On i) (k : ℕ) (ek : k ≡ cell 1 ws i) where
+  module _ (i : ℕ) (p : stand_of Out (ring_of st ws h) (length bytes) dev ≡ Ok i) (k : ℕ) (ek : k ≡ cell 1 ws i) where
     shown : record_of (ring_of st ws h) i ≡ record_at st ws i
     shown = seen Out st ws h (length bytes) dev i p
 
@@ -61,21 +57,21 @@ module _ (st ws : List ℕ) (h : Head) (dev : Next) (bytes out : List ℕ) where
         let g = (facts Out (ring_of st ws h) (length bytes) f.sound-is).fits i f.below in
         omega (arith, ek, rw shown at g, rw shown at (part-fits Out (ring_of st ws h) (length bytes) dev i f))
 
-    pub transmit-short : length out < k → SentIn st ws h dev bytes out ws out (record { device = dev; answer = counted.Refused BadState })
+    pub transmit-short : length out < k → SentIn st ws h dev bytes out ws out (record { device = dev; answer = Err BadState })
     unfolding transmit_of transmit_over
     transmit-short l =
         let x : leb (record_of (ring_of st ws h) i).length (length out) ≡ false = rw stands (lt-leb k (length out) l) in
-        kept (record { device = dev; answer = counted.Refused BadState }) (record { ring = ring_of st ws h; device = dev; answer = counted.Refused BadState })
+        kept (record { device = dev; answer = Err BadState }) (record { ring = ring_of st ws h; device = dev; answer = Err BadState })
         (ap (transmit_by (ring_of st ws h) dev (length out)) p ∙ rw x) refl (ap (transmit_over_by (ring_of st ws h) bytes out) p ∙ rw x) refl refl
 
-    pub transmit-done : k ≤ length out → (x : Next) (at : ℕ) (ws' out' : List ℕ) → x ≡ next_of (cell 2 ws i) → at ≡ start_at st i → out' ≡ take k (drop at bytes) ++ drop k out → ws' ≡ put_owner ws i Cpu
-        → SentIn st ws h dev bytes out ws' out' (record { device = x; answer = counted.Bytes k })
+    pub transmit-done : k ≤ length out → (x : Option ℕ) (at : ℕ) (ws' out' : List ℕ) → x ≡ next_of (cell 2 ws i) → at ≡ start_at st i → out' ≡ take k (drop at bytes) ++ drop k out → ws' ≡ put_owner ws i Cpu
+        → SentIn st ws h dev bytes out ws' out' (record { device = x; answer = Ok k })
     unfolding transmit_of transmit_over
     transmit-done l x at ws' out' ex ea eo ew =
         let r : Ring = ring_of st ws h in
         let g : leb (record_of r i).length (length out) ≡ true = rw stands (le-leb k (length out) l) in
         let o : transmit_by r dev (length out) (stand_of Out r (length bytes) dev)
-        ≡ record { ring = with_records r (update (records_of st ws) i sent); device = (record_of r i).next; answer = counted.Bytes (record_of r i).length } =
+        ≡ record { ring = with_records r (update (records_of st ws) i sent); device = (record_of r i).next; answer = Ok (record_of r i).length } =
         ap (transmit_by r dev (length out)) p ∙ rw g in
         let w = words-held Out st ws h (length bytes) dev i p in
         let c = owner-lifts st i Cpu ws w in

@@ -1,7 +1,6 @@
 -- A step with the ring by value is the step in place.
-use Rattle.std.specs.Prelude.{ℕ, ◌≡◌, refl, Bool, true, false, cond, List, leb, length}
+use Rattle.std.specs.Prelude.{ℕ, ◌≡◌, refl, Bool, true, false, cond, List, leb, length, Ok, Err, Option}
 use Rattle.descriptors.specs.Ring.{Ring, ring_of, head_of, record_of}
-use Rattle.descriptors.specs.declared.record.Next.{Next}
 use Rattle.descriptors.specs.declared.record.TransferDirection.TheVariants.{In, Out}
 use Rattle.rx_stream.specs.declared.view.DmaRxStreamBufView.{DmaRxStreamBufView}
 use Rattle.tx_stream.specs.declared.view.DmaTxStreamBufView.{DmaTxStreamBufView}
@@ -10,39 +9,38 @@ use Rattle.device.specs.Device.{Stepped, stand_of, fits, receive_by, receive_of,
 use Rattle.device.specs.Faces.{ReceivedIn, SentIn}
 use Rattle.device.specs.Values.{received_of, sent_of}
 use Rattle.device.specs.declared.receive.Received.{Received}
+use Rattle.descriptors.specs.Refusal.{Answer}
 use Rattle.device.specs.declared.transmit.Sent.{Sent}
-use Rattle.device.specs.declared.stand.Stand.{Stand}
-use Rattle.device.specs.declared.stand.Stand.TheVariants as stand
 
 -- a step leaves count, cursor, tally and prefilled count as they are
 either : {A : Type 0} (h : Head) (b : Bool) (x y : Stepped A) → head_of x.ring ≡ h → head_of y.ring ≡ h → head_of (cond b x y).ring ≡ h
 either h true x y p q = p
 either h false x y p q = q
 
-receive-head : (r : Ring) (dev : Next) (len k : ℕ) (eof : Bool) → head_of (receive_of r dev len k eof).ring ≡ head_of r
+receive-head : (r : Ring) (dev : Option ℕ) (len k : ℕ) (eof : Bool) → head_of (receive_of r dev len k eof).ring ≡ head_of r
 unfolding receive_of
 receive-head r dev len k eof = go (stand_of In r len dev)
   where
-    go : (x : Stand) → head_of (receive_by r dev k eof x).ring ≡ head_of r
-    go (stand.Refused e) = refl
-    go (stand.On i) = either (head_of r) (fits k (record_of r i)) _ _ refl refl
+    go : (x : Answer ℕ) → head_of (receive_by r dev k eof x).ring ≡ head_of r
+    go (Err e) = refl
+    go (Ok i) = either (head_of r) (fits k (record_of r i)) _ _ refl refl
 
-transmit-head : (r : Ring) (dev : Next) (len room : ℕ) → head_of (transmit_of r dev len room).ring ≡ head_of r
+transmit-head : (r : Ring) (dev : Option ℕ) (len room : ℕ) → head_of (transmit_of r dev len room).ring ≡ head_of r
 unfolding transmit_of
 transmit-head r dev len room = go (stand_of Out r len dev)
   where
-    go : (x : Stand) → head_of (transmit_by r dev room x).ring ≡ head_of r
-    go (stand.Refused e) = refl
-    go (stand.On i) = either (head_of r) (leb (record_of r i).length room) _ _ refl refl
+    go : (x : Answer ℕ) → head_of (transmit_by r dev room x).ring ≡ head_of r
+    go (Err e) = refl
+    go (Ok i) = either (head_of r) (leb (record_of r i).length room) _ _ refl refl
 
-pub received-value : (v : DmaRxStreamBufView) (dev : Next) (bytes bs : List ℕ) (eof : Bool) (ws' bytes' : List ℕ) (r : Received)
+pub received-value : (v : DmaRxStreamBufView) (dev : Option ℕ) (bytes bs : List ℕ) (eof : Bool) (ws' bytes' : List ℕ) (r : Received)
     → ReceivedIn v.starts v.cells v.head dev bytes bs eof ws' bytes' r
     → record { ring = record { starts = v.starts; cells = ws'; head = v.head }; device = r.device; answer = r.answer }
     ≡ received_of v (receive_of (ring_of v.starts v.cells v.head) dev (length bytes) (length bs) eof)
 received-value v dev bytes bs eof ws' bytes' r p =
     rw (p.cells, p.device, p.answer, receive-head (ring_of v.starts v.cells v.head) dev (length bytes) (length bs) eof)
 
-pub sent-value : (v : DmaTxStreamBufView) (dev : Next) (bytes out ws' out' : List ℕ) (r : Sent) → SentIn v.starts v.cells v.head dev bytes out ws' out' r
+pub sent-value : (v : DmaTxStreamBufView) (dev : Option ℕ) (bytes out ws' out' : List ℕ) (r : Sent) → SentIn v.starts v.cells v.head dev bytes out ws' out' r
     → record { ring = record { starts = v.starts; cells = ws'; head = v.head }; device = r.device; answer = r.answer }
     ≡ sent_of v (transmit_of (ring_of v.starts v.cells v.head) dev (length bytes) (length out))
 sent-value v dev bytes out ws' out' r p =

@@ -1,26 +1,25 @@
 -- "Each record gets size and start .., and the one before it its link"; "The last record's next stays as lent."
-use Rattle.std.specs.Prelude.{ℕ, zero, suc, ◌+◌, ◌<◌, ◌≤◌, ◌≡◌, refl, cond, List, ltb, length}
+use Rattle.std.specs.Prelude.{ℕ, zero, suc, ◌+◌, ◌<◌, ◌≤◌, ◌≡◌, refl, cond, List, ltb, length, Some}
 use Rattle.std.proofs.Common.{sym, ◌∙◌, ap, arith, add-one, lt-ltb, le-ltb}
 use Rattle.std.proofs.Math.Decide.{ℕ_discrete}
 use Rattle.descriptors.specs.Record.{record_in, update, up_to, with_next}
 use Rattle.descriptors.specs.laws.Updates.{update-length, update_same, update_other}
 use Rattle.descriptors.specs.declared.record.DmaDescriptor.{DmaDescriptor}
-use Rattle.descriptors.specs.declared.record.Next.TheVariants.{At}
 use Rattle.psram.specs.Piece.{piece_of}
 use Rattle.psram.specs.List.{link_before, laid, listed_at}
 use Rattle.psram.specs.declared.plan.Plan.{Plan}
 
 -- record j of k that are used: it leads to the next one, and the last keeps its next
 abbrev pub leading : ℕ → ℕ → DmaDescriptor → DmaDescriptor
-leading k j d = cond (ltb (j + 1) k) (with_next (At (j + 1)) d) d
+leading k j d = cond (ltb (j + 1) k) (with_next (Some (j + 1)) d) d
 
 link-length : (i : ℕ) (ds : List DmaDescriptor) → length (link_before i ds) ≡ length ds
 link-length zero ds = refl
-link-length (suc j) ds = update-length ds j (with_next (At (suc j)))
+link-length (suc j) ds = update-length ds j (with_next (Some (suc j)))
 
 link-other : (i j : ℕ) (ds : List DmaDescriptor) → i ≤ j → record_in (link_before i ds) j ≡ record_in ds j
 link-other zero j ds h = refl
-link-other (suc i) j ds h = update_other ds i j (with_next (At (suc i))) (λ e. omega arith)
+link-other (suc i) j ds h = update_other ds i j (with_next (Some (suc i))) (λ e. omega arith)
 
 listed-length : (p : Plan) (k : ℕ) (ds : List DmaDescriptor) → length (up_to (listed_at p) k ds) ≡ length ds
 unfolding up_to listed_at
@@ -47,14 +46,14 @@ linked_on p (suc k) j s ds h l e = go (ℕ_discrete j k)
     at : record_in s k ≡ leading (suc k) k (laid (piece_of p k) (record_in ds k))
         → record_in (link_before (suc k) s) k ≡ leading (suc (suc k)) k (laid (piece_of p k) (record_in ds k))
     at e =
-        update_same s k (with_next (At (suc k))) (omega arith)
-        ∙ ap (with_next (At (suc k))) (rw (le-ltb (k + 1) (suc k) (omega arith)) at e)
+        update_same s k (with_next (Some (suc k))) (omega arith)
+        ∙ ap (with_next (Some (suc k))) (rw (le-ltb (k + 1) (suc k) (omega arith)) at e)
         ∙ sym (rw (lt-ltb (k + 1) (suc (suc k)) (omega arith), add-one k) refl)
 
     go : Dec (j ≡ k) → record_in (link_before (suc k) s) j ≡ leading (suc (suc k)) j (laid (piece_of p j) (record_in ds j))
     go (yes q) = rw q (at (rw q at e))
     go (no q) =
-        update_other s k j (with_next (At (suc k))) q ∙ e
+        update_other s k j (with_next (Some (suc k))) q ∙ e
         ∙ rw (lt-ltb (j + 1) (suc k) (omega arith), lt-ltb (j + 1) (suc (suc k)) (omega arith)) refl
 
 pub listed-record : (p : Plan) (k : ℕ) (ds : List DmaDescriptor) → k ≤ length ds → (j : ℕ) → j < k

@@ -1,5 +1,5 @@
 -- The stores of a list of pieces, as changes of the records that the words show.
-use Rattle.std.specs.Prelude.{ℕ, zero, suc, ◌+◌, ◌-◌, ◌≤◌, ◌≡◌, Bool, true, false, not, List, eqb, length}
+use Rattle.std.specs.Prelude.{ℕ, zero, suc, ◌+◌, ◌-◌, ◌≤◌, ◌≡◌, Bool, true, false, not, List, eqb, length, Ok, Err, Some}
 use Rattle.std.proofs.Math.Path.{refl}
 use Rattle.std.proofs.Common.{◌∙◌, ap, arith, add-one, lt-ltb}
 use Rattle.descriptors.specs.Record.{limit, update, up_to, with_buffer, with_size}
@@ -8,19 +8,16 @@ use Rattle.descriptors.specs.laws.Lifts.{Lifts, size-lifts, next-lifts, start-ch
 use Rattle.descriptors.specs.laws.Updates.{update_twice}
 use Rattle.descriptors.specs.laws.Words.{words_are, starts-same, cells_same}
 use Rattle.descriptors.specs.declared.record.DmaDescriptor.{DmaDescriptor}
-use Rattle.descriptors.specs.declared.record.Next.TheVariants.{At}
 use Rattle.descriptors.specs.declared.refusal.DmaBufError.{DmaBufError}
-use Rattle.descriptors.specs.declared.refusal.Done.{Done}
-use Rattle.descriptors.specs.declared.refusal.Done.TheVariants as done
 use Rattle.psram.specs.Cut.{plan_for}
 use Rattle.psram.specs.Piece.{piece_of, start_in, size_in, ready_of}
 use Rattle.psram.specs.List.{Leaves, link_before, listed_at, link_cells, list_start, list_cells, covered_of, used_of, listing_by, list_of}
 use Rattle.psram.specs.laws.Pieces.{ready}
 use Rattle.psram.specs.declared.chip.Chip.{Chip}
-use Rattle.psram.specs.declared.held.Listed.TheVariants.{Bytes, Refused}
+use Rattle.descriptors.specs.Refusal.{Answer}
 use Rattle.psram.specs.declared.plan.Plan.{Plan}
 
-pub link-some : (i : ℕ) (ws : List ℕ) → (i ≡ 0 → ⊥) → link_cells i ws ≡ put_next ws (i - 1) (At i)
+pub link-some : (i : ℕ) (ws : List ℕ) → (i ≡ 0 → ⊥) → link_cells i ws ≡ put_next ws (i - 1) (Some i)
 link-some zero ws h = absurd (h refl)
 link-some (suc j) ws h = let e : suc j - 1 ≡ j = omega arith in rw e refl
 
@@ -34,7 +31,7 @@ covered_more p i = rw (add-one i) refl
 
 link-lifts : (st : List ℕ) (i : ℕ) → i ≤ limit → Lifts st (link_cells i) (link_before i)
 link-lifts st zero h = λ ws a. (a, refl)
-link-lifts st (suc j) h = next-lifts st j (At (suc j)) (lt-ltb (suc j) 65535 (omega arith))
+link-lifts st (suc j) h = next-lifts st j (Some (suc j)) (lt-ltb (suc j) 65535 (omega arith))
 
 cells-lift : (p : Plan) (st : List ℕ) (i : ℕ) → i ≤ limit → Lifts st (list_cells p i) (λ ds. update (link_before i ds) i (with_size (size_in (piece_of p i))))
 unfolding list_cells
@@ -74,21 +71,21 @@ held-is st ws = go (are_records st ws) refl
     go false e = rw (records-none st ws e) refl
 
 module _ (st ws : List ℕ) (n address len : ℕ) (chip : Chip) (store : ℕ) where
-  judged : (d : Done) → ready_of (are_records st ws) n address len chip store ≡ d
+  judged : (d : Answer Unit) → ready_of (are_records st ws) n address len chip store ≡ d
       → list_of (records_of st ws) n address len chip store ≡ listing_by d (records_of st ws) n (plan_for chip address len)
   unfolding list_of
   judged d e = rw (held-is st ws, e) refl
 
-  pub leaves-refused : (e : DmaBufError) → ready_of (are_records st ws) n address len chip store ≡ done.Refused e
-      → Leaves st ws st ws (Refused e) (list_of (records_of st ws) n address len chip store)
-  leaves-refused e h = rw (judged (done.Refused e) h) (refl, (starts-same st ws, cells_same st ws))
+  pub leaves-refused : (e : DmaBufError) → ready_of (are_records st ws) n address len chip store ≡ Err e
+      → Leaves st ws st ws (Err e) (list_of (records_of st ws) n address len chip store)
+  leaves-refused e h = rw (judged (Err e) h) (refl, (starts-same st ws, cells_same st ws))
 
-  pub leaves-ready : ready_of (are_records st ws) n address len chip store ≡ done.Ready → let p = plan_for chip address len in
-      Leaves st ws (up_to (list_start p) (used_of n p) st) (up_to (list_cells p) (used_of n p) ws) (Bytes (covered_of p (used_of n p)) (used_of n p))
+  pub leaves-ready : ready_of (are_records st ws) n address len chip store ≡ (Ok tt) → let p = plan_for chip address len in
+      Leaves st ws (up_to (list_start p) (used_of n p) st) (up_to (list_cells p) (used_of n p) ws) (Ok (record { covered = covered_of p (used_of n p); used = used_of n p }))
       (list_of (records_of st ws) n address len chip store)
   leaves-ready h =
       let p = plan_for chip address len in
       let r = ready (are_records st ws) n address len chip store h in
       let g = list-gets p st ws r.0 (used_of n p) (omega (arith, r.1.few)) in
-      rw (judged done.Ready h)
+      rw (judged (Ok tt) h)
       (refl, words_are st ws (up_to (list_start p) (used_of n p) st) (up_to (list_cells p) (used_of n p) ws) (up_to (listed_at p) (used_of n p) (records_of st ws)) r.0 g.0 g.1)

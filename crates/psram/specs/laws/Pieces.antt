@@ -1,18 +1,17 @@
 -- Where the pieces of a plan lie.
-use Rattle.std.specs.Prelude.{ℕ, ◌+◌, ◌-◌, ◌*◌, ◌%◌, ◌<◌, ◌≤◌, ◌≡◌, refl, Bool, true, false, cond, ◌&&◌, ◌⊎◌, eqb, leb, ltb}
+use Rattle.std.specs.Prelude.{ℕ, ◌+◌, ◌-◌, ◌*◌, ◌%◌, ◌<◌, ◌≤◌, ◌≡◌, refl, Bool, true, false, cond, ◌&&◌, ◌⊎◌, eqb, leb, ltb, Ok, Err}
 use Rattle.std.proofs.Common.{inl, inr, ⊎_elim, arith, ltb-true, ltb-false, leb-true}
 use Rattle.descriptors.specs.Record.{limit, top}
 use Rattle.descriptors.specs.declared.refusal.DmaBufError.TheVariants.{TooManyDescriptors, BadState, TooMuch, UnsupportedMemoryRegion}
 use Rattle.descriptors.specs.declared.refusal.DmaBufError.{DmaBufError}
-use Rattle.descriptors.specs.declared.refusal.Done.{Done}
-use Rattle.descriptors.specs.declared.refusal.Done.TheVariants as done
 use Rattle.psram.specs.Cut.{piece, least_of, bounce_of, plan_for}
 use Rattle.psram.specs.Piece.{Small, bytes_of, some, directs, direct_of, piece_of, start_in, size_in, ready_of, numbered_by, numbered_of}
 use Rattle.psram.specs.laws.Parts.{Parted, parted, bounce-is, sides}
 use Rattle.psram.specs.declared.chip.Chip.{Chip}
 use Rattle.psram.specs.declared.plan.Plan.{Plan}
+use Rattle.psram.specs.declared.held.Held.TheVariants.{InStore, InRange}
+use Rattle.descriptors.specs.Refusal.{Answer}
 use Rattle.psram.specs.declared.held.Held.{Held}
-use Rattle.psram.specs.declared.held.Held.TheVariants.{InStore, InRange, Refused}
 
 pub some-le : (size : ℕ) → some size ≤ 1
 some-le size = go (eqb size 0)
@@ -22,10 +21,10 @@ some-le size = go (eqb size 0)
     go false = omega arith
 
 -- a piece of a plan: the head at 0 of the store, the tail at the bounce size; or a part of the middle
-abbrev pub Lies : Plan → Held → Type 0
-Lies p (InStore start size) = ((start ≡ 0) × (size ≡ p.head)) ⊎ ((start ≡ p.bounce) × (size ≡ p.tail))
-Lies p (InRange start size) = (p.head ≤ start) × ((start + size ≤ p.head + p.middle) × (((start - p.head) % piece ≡ 0) × ((0 < size) × (size ≤ piece))))
-Lies p (Refused e) = Unit {0}
+abbrev pub Lies : Plan → Answer Held → Type 0
+Lies p (Ok (InStore start size)) = ((start ≡ 0) × (size ≡ p.head)) ⊎ ((start ≡ p.bounce) × (size ≡ p.tail))
+Lies p (Ok (InRange start size)) = (p.head ≤ start) × ((start + size ≤ p.head + p.middle) × (((start - p.head) % piece ≡ 0) × ((0 < size) × (size ≤ piece))))
+Lies p (Err e) = Unit {0}
 
 pub lies : (p : Plan) (i : ℕ) → Lies p (piece_of p i)
 unfolding piece_of
@@ -35,20 +34,20 @@ lies p i =
     (ltb (i - some p.head - directs p.middle) (some p.tail))
   where
     go : (a b : Bool) → ltb (i - some p.head) (directs p.middle) ≡ b → (c : Bool)
-        → Lies p (cond a (InStore 0 p.head) (cond b (direct_of p (i - some p.head)) (cond c (InStore p.bounce p.tail) (Refused TooMuch))))
+        → Lies p (cond a (Ok (InStore 0 p.head)) (cond b (direct_of p (i - some p.head)) (cond c (Ok (InStore p.bounce p.tail)) (Err TooMuch))))
     go true b e c = inl (refl, refl)
     go false true e c =
         let h = ltb-true (i - some p.head) (directs p.middle) e in (omega arith, (omega arith, (omega arith, (omega arith, omega arith))))
     go false false e true = inr (refl, refl)
     go false false e false = tt
 
-never : {e : DmaBufError} → done.Refused e ≡ done.Ready → ⊥
+never : {e : DmaBufError} → Err e ≡ (Ok tt) → ⊥
 never h = let z : ◌≡◌ {A = ℕ} 0 1 = cc in omega arith
 
-abbrev chosen : Bool → Bool → Bool → Bool → Done
+abbrev chosen : Bool → Bool → Bool → Bool → Answer Unit
 chosen many held room past =
-    cond many (done.Refused TooManyDescriptors)
-    (cond (held && room) (cond past (done.Refused UnsupportedMemoryRegion) done.Ready) (done.Refused BadState))
+    cond many (Err TooManyDescriptors)
+    (cond (held && room) (cond past (Err UnsupportedMemoryRegion) (Ok tt)) (Err BadState))
 
 -- what a list that is not refused was asked for
 pub record Ready (n address len : ℕ) (chip : Chip) (store : ℕ) : Type 0 where
@@ -56,13 +55,13 @@ pub record Ready (n address len : ℕ) (chip : Chip) (store : ℕ) : Type 0 wher
   pub room : 2 * bounce_of chip ≤ store
   pub below : address + len ≤ top
 
-pub ready : (held : Bool) (n address len : ℕ) (chip : Chip) (store : ℕ) → ready_of held n address len chip store ≡ done.Ready
+pub ready : (held : Bool) (n address len : ℕ) (chip : Chip) (store : ℕ) → ready_of held n address len chip store ≡ (Ok tt)
     → (held ≡ true) × Ready n address len chip store
 unfolding ready_of
 ready held n address len chip store h = go (ltb limit n) refl held refl (leb (2 * bounce_of chip) store) refl (ltb top (address + len)) refl h
   where
     go : (a : Bool) → ltb limit n ≡ a → (b : Bool) → held ≡ b → (c : Bool) → leb (2 * bounce_of chip) store ≡ c → (d : Bool) → ltb top (address + len) ≡ d
-        → chosen a b c d ≡ done.Ready → (held ≡ true) × Ready n address len chip store
+        → chosen a b c d ≡ (Ok tt) → (held ≡ true) × Ready n address len chip store
     go true p b q c r d t h = absurd (never h)
     go false p true q true r true t h = absurd (never h)
     go false p true q true r false t h = (q, record { few = ltb-false limit n p; room = leb-true (2 * bounce_of chip) store r; below = ltb-false top (address + len) t })
@@ -75,10 +74,10 @@ bytes_le n address len chip store r =
     omega (arith, (parted (least_of chip) (bounce_of chip) address len (sides chip)).whole, r.below)
 
 -- the part that a numbered piece shows is there
-abbrev pub Within : ℕ → ℕ → Held → Type 0
-Within store len (InStore start size) = start + size ≤ store
-Within store len (InRange start size) = start + size ≤ len
-Within store len (Refused e) = Unit {0}
+abbrev pub Within : ℕ → ℕ → Answer Held → Type 0
+Within store len (Ok (InStore start size)) = start + size ≤ store
+Within store len (Ok (InRange start size)) = start + size ≤ len
+Within store len (Err e) = Unit {0}
 
 pub within : (n address len : ℕ) (chip : Chip) (store i : ℕ) → Within store len (numbered_of n address len chip store i)
 unfolding numbered_of
@@ -90,21 +89,21 @@ within n address len chip store i = go (ready_of true n address len chip store) 
     same : (plan_for chip address len).bounce ≡ bounce_of chip
     same = bounce-is (least_of chip) (bounce_of chip) address len
 
-    part : Ready n address len chip store → (h : Held) → Lies (plan_for chip address len) h → Within store len h
-    part r (InStore start size) l =
+    part : Ready n address len chip store → (h : Answer Held) → Lies (plan_for chip address len) h → Within store len h
+    part r (Ok (InStore start size)) l =
         ⊎_elim (λ q. omega (arith, parts.head-held, same, r.room)) (λ q. omega (arith, parts.tail-held, same, r.room)) l
-    part r (InRange start size) l = omega (arith, parts.whole)
-    part r (Refused e) l = tt
+    part r (Ok (InRange start size)) l = omega (arith, parts.whole)
+    part r (Err e) l = tt
 
-    numbered : (b : Bool) (h : Held) → Within store len h → Within store len (cond b h (Refused TooMuch))
+    numbered : (b : Bool) (h : Answer Held) → Within store len h → Within store len (cond b h (Err TooMuch))
     numbered true h w = w
     numbered false h w = tt
 
-    go : (d : Done) → ready_of true n address len chip store ≡ d → Within store len (numbered_by d n (plan_for chip address len) i)
-    go done.Ready e =
+    go : (d : Answer Unit) → ready_of true n address len chip store ≡ d → Within store len (numbered_by d n (plan_for chip address len) i)
+    go (Ok tt) e =
         numbered (ltb i n) (piece_of (plan_for chip address len) i)
         (part (ready true n address len chip store e).1 (piece_of (plan_for chip address len) i) (lies (plan_for chip address len) i))
-    go (done.Refused r) e = tt
+    go (Err r) e = tt
 
 -- the length of a part that is given by its start and its end
 pub span : (start size : ℕ) → start + size - start ≡ size
@@ -114,10 +113,10 @@ span start size = omega arith
 pub small-fits : (p : Plan) → Small p → (i : ℕ) → (size_in (piece_of p i) ≤ piece) × (start_in (piece_of p i) < top)
 small-fits p s i = go (piece_of p i) (lies p i)
   where
-    go : (h : Held) → Lies p h → (size_in h ≤ piece) × (start_in h < top)
-    go (InStore start size) l = ⊎_elim (λ q. (omega arith, omega arith)) (λ q. (omega arith, omega arith)) l
-    go (InRange start size) l = (omega arith, omega arith)
-    go (Refused e) l = (omega arith, omega arith)
+    go : (h : Answer Held) → Lies p h → (size_in h ≤ piece) × (start_in h < top)
+    go (Ok (InStore start size)) l = ⊎_elim (λ q. (omega arith, omega arith)) (λ q. (omega arith, omega arith)) l
+    go (Ok (InRange start size)) l = (omega arith, omega arith)
+    go (Err e) l = (omega arith, omega arith)
 
 pub small : (n address len : ℕ) (chip : Chip) (store : ℕ) → Ready n address len chip store → Small (plan_for chip address len)
 small n address len chip store r =

@@ -1,5 +1,5 @@
 -- "With enough records the pieces tile the range, else its first bytes; a direct piece starts on a line, and their total is whole lines."
-use Rattle.std.specs.Prelude.{ℕ, zero, suc, ◌+◌, ◌-◌, ◌*◌, ◌%◌, ◌<◌, ◌≤◌, min, ◌≡◌, refl, Bool, true, false, cond, List, [], ◌++◌, ◌⊎◌, eqb, length, take, drop}
+use Rattle.std.specs.Prelude.{ℕ, zero, suc, ◌+◌, ◌-◌, ◌*◌, ◌%◌, ◌<◌, ◌≤◌, min, ◌≡◌, refl, Bool, true, false, cond, List, [], ◌++◌, ◌⊎◌, eqb, length, take, drop, Ok, Err}
 use Rattle.std.proofs.Common.{sym, ◌∙◌, ap, subst, inl, inr, ⊎_elim, arith, take-add, eqb-true, ne_eqb, lt-ltb, le-ltb}
 use Rattle.std.proofs.Math.Decide.{dec_lt}
 use Rattle.std.proofs.Math.Seq.{take-length}
@@ -11,8 +11,9 @@ use Rattle.psram.specs.laws.Parts.{Parted, parted, bounce-is, sides}
 use Rattle.psram.specs.laws.Pieces.{some-le, Lies, lies}
 use Rattle.psram.specs.declared.chip.Chip.{Chip}
 use Rattle.psram.specs.declared.plan.Plan.{Plan}
+use Rattle.psram.specs.declared.held.Held.TheVariants.{InStore, InRange}
+use Rattle.descriptors.specs.Refusal.{Answer}
 use Rattle.psram.specs.declared.held.Held.{Held}
-use Rattle.psram.specs.declared.held.Held.TheVariants.{InStore, InRange, Refused}
 
 -- an outer part is a piece exactly where it has bytes
 some_is : (size : ℕ) → ((size ≡ 0) × (some size ≡ 0)) ⊎ ((0 < size) × (some size ≡ 1))
@@ -23,7 +24,7 @@ some_is size = go (eqb size 0) refl
     go false e = inr (omega (arith, eqb-false size 0 e), refl)
 
 -- the three kinds of piece, by number
-pub head-piece : (p : Plan) (i : ℕ) → i < some p.head → piece_of p i ≡ InStore 0 p.head
+pub head-piece : (p : Plan) (i : ℕ) → i < some p.head → piece_of p i ≡ Ok (InStore 0 p.head)
 unfolding piece_of
 head-piece p i h = rw (lt-ltb i (some p.head) h)
 
@@ -32,17 +33,17 @@ unfolding piece_of
 direct-piece p i h l = rw (le-ltb i (some p.head) h, lt-ltb (i - some p.head) (directs p.middle) (omega arith))
 
 pub tail-piece : (p : Plan) (i : ℕ) → some p.head + directs p.middle ≤ i → i < some p.head + directs p.middle + some p.tail
-    → piece_of p i ≡ InStore p.bounce p.tail
+    → piece_of p i ≡ Ok (InStore p.bounce p.tail)
 unfolding piece_of
 tail-piece p i h l =
     rw
     (le-ltb i (some p.head) (omega arith), le-ltb (i - some p.head) (directs p.middle) (omega arith), lt-ltb (i - some p.head - directs p.middle) (some p.tail) (omega arith))
 
 -- where the bytes of a piece belong in the range: what is bounced at 0 before the middle, what is bounced at the bounce size behind it
-abbrev pub place_in : Plan → Held → ℕ
-place_in p (InStore start size) = cond (eqb start 0) 0 (p.head + p.middle)
-place_in p (InRange start size) = start
-place_in p (Refused e) = 0
+abbrev pub place_in : Plan → Answer Held → ℕ
+place_in p (Ok (InStore start size)) = cond (eqb start 0) 0 (p.head + p.middle)
+place_in p (Ok (InRange start size)) = start
+place_in p (Err e) = 0
 
 -- ---- the bytes of the first pieces
 
@@ -107,10 +108,10 @@ covered-left p (suc d) k e =
     omega (arith, covered-left p d (suc k) (omega arith), covered-step p k (suc k) refl, size-pos p k (omega arith))
 
 -- the bytes of the direct pieces among the first k
-abbrev pub direct_in : Held → ℕ
-direct_in (InStore start size) = 0
-direct_in (InRange start size) = size
-direct_in (Refused e) = 0
+abbrev pub direct_in : Answer Held → ℕ
+direct_in (Ok (InStore start size)) = 0
+direct_in (Ok (InRange start size)) = size
+direct_in (Err e) = 0
 
 unfoldable pub direct_bytes : Plan → ℕ → ℕ
 direct_bytes p zero = 0
@@ -182,9 +183,9 @@ module _ (chip : Chip) (address : ℕ) (range : List ℕ) where
       rw e (omega (arith, covered-left plan (pieces_of plan - n) n (omega arith), parts.whole), tiles plan bounce-pos range n (omega arith))
 
   -- "a direct piece starts on a line"
-  pub direct-on-a-line : (i start size : ℕ) → piece_of plan i ≡ InRange start size → (address + start) % line ≡ 0
+  pub direct-on-a-line : (i start size : ℕ) → piece_of plan i ≡ Ok (InRange start size) → (address + start) % line ≡ 0
   direct-on-a-line i start size e =
-      let l : Lies plan (InRange start size) = subst (λ (h : Held). Lies plan h) e (lies plan i) in
+      let l : Lies plan (Ok (InRange start size)) = subst (λ (h : Answer Held). Lies plan h) e (lies plan i) in
       omega (arith, parts.on_line (omega arith))
 
   -- "and their total is whole lines"
@@ -192,10 +193,10 @@ module _ (chip : Chip) (address : ℕ) (range : List ℕ) where
   direct-whole-lines = rw (direct-all plan) parts.lines
 
   -- "Bounce store: head at 0, tail at the bounce size": each in its half
-  pub in-its-half : (i start size : ℕ) → piece_of plan i ≡ InStore start size
+  pub in-its-half : (i start size : ℕ) → piece_of plan i ≡ Ok (InStore start size)
       → (size ≤ bounce_of chip) × ((start ≡ 0) ⊎ (start ≡ bounce_of chip))
   in-its-half i start size e =
-      let l : Lies plan (InStore start size) = subst (λ (h : Held). Lies plan h) e (lies plan i) in
+      let l : Lies plan (Ok (InStore start size)) = subst (λ (h : Answer Held). Lies plan h) e (lies plan i) in
       let b = bounce-is (least_of chip) (bounce_of chip) address (length range) in
       ⊎_elim (λ q. (omega (arith, b, parts.head-held), inl q.0)) (λ q. (omega (arith, b, parts.tail-held), inr (q.0 ∙ b))) l
 

@@ -1,5 +1,5 @@
 -- What is taken from the words is what is taken from the records that they show.
-use Rattle.std.specs.Prelude.{◌≡◌, ℕ, ◌+◌, ◌%◌, ◌^◌, ◌≤◌, Bool, true, false, ◌&&◌, ◌||◌, List, [], ◌==◌, refl}
+use Rattle.std.specs.Prelude.{◌≡◌, ℕ, ◌+◌, ◌%◌, ◌^◌, ◌≤◌, Bool, true, false, ◌&&◌, ◌||◌, List, [], ◌==◌, refl, Err}
 use Rattle.std.proofs.Common.{sym, ◌∙◌, arith}
 use Rattle.std.proofs.Math.Path.{ap}
 use Rattle.descriptors.specs.Record.{record_in, is_cpu, up_to}
@@ -15,20 +15,19 @@ use Rattle.descriptors.specs.laws.Sound.{Facts, facts, split-facts, split-record
 use Rattle.descriptors.specs.laws.Tests.{not-both}
 use Rattle.descriptors.specs.declared.record.TransferDirection.TheVariants.{In}
 use Rattle.descriptors.specs.declared.refusal.DmaBufError.{DmaBufError}
-use Rattle.descriptors.specs.declared.refusal.Done.{Done}
-use Rattle.descriptors.specs.declared.refusal.Done.TheVariants.{Refused}
 use Rattle.descriptors.specs.declared.ring.Head.{Head}
 use Rattle.descriptors.specs.declared.walk.Moved.{Moved}
 use Rattle.rx_stream.specs.Receive.{idle}
 use Rattle.rx_stream.specs.Faces.{step_in, taken_by}
+use Rattle.descriptors.specs.Refusal.{Answer}
 use Rattle.rx_stream.specs.laws.Flats.{cells-like}
 
 pub tally-wraps : (a b : ℕ) → (a + b % 4294967296) % 2 ^ 32 ≡ (a + b) % 2 ^ 32
 tally-wraps a b = omega arith
 
 -- what a refusal of the judge tells
-pub unsound : (b : Bool) {d : Done} {e : DmaBufError} → d ≡ judged b → d ≡ Refused e → b ≡ false
-unsound true p q = not-both (let z : judged true ≡ Refused _ = sym p ∙ q in cc)
+pub unsound : (b : Bool) {d : (Answer Unit)} {e : DmaBufError} → d ≡ judged b → d ≡ Err e → b ≡ false
+unsound true p q = not-both (let z : judged true ≡ Err _ = sym p ∙ q in cc)
 unsound false p q = refl
 
 -- the words of a sound ring

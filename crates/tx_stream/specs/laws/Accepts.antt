@@ -1,5 +1,5 @@
 -- What the walk and the stores on the words are to the ring, where it is sound.
-use Rattle.std.specs.Prelude.{◌≡◌, ℕ, ◌+◌, ◌-◌, ◌%◌, ◌^◌, ◌≤◌, Bool, true, false, cond, List, [], nat_le, refl}
+use Rattle.std.specs.Prelude.{◌≡◌, ℕ, ◌+◌, ◌-◌, ◌%◌, ◌^◌, ◌≤◌, Bool, true, false, cond, List, [], nat_le, refl, Ok, Err}
 use Rattle.std.proofs.Common.{sym, ◌∙◌, arith, le-leb}
 use Rattle.std.proofs.Math.Path.{ap}
 use Rattle.descriptors.specs.Record.{limit, record_in}
@@ -15,7 +15,6 @@ use Rattle.descriptors.specs.laws.Walks.{run-alike, walk-alike, walk-in, cells-a
 use Rattle.descriptors.specs.declared.record.DmaDescriptor.{DmaDescriptor}
 use Rattle.descriptors.specs.declared.record.TransferDirection.TheVariants.{Out}
 use Rattle.descriptors.specs.declared.refusal.DmaBufError.TheVariants.{TooMuch}
-use Rattle.descriptors.specs.declared.refusal.Counted.TheVariants as counted
 use Rattle.descriptors.specs.declared.ring.Head.{Head}
 use Rattle.descriptors.specs.declared.walk.Moved.{Moved}
 use Rattle.tx_stream.specs.Transmit.{accepted_up_to, write_at}
@@ -69,14 +68,14 @@ module _ (st ws : List ℕ) (h : Head) (len : ℕ) (s : sound Out (ring_of st ws
   -- what is accepted up to a bound
   pub up_to : (b bound k : ℕ) → b ≡ bound
       → (cond (nat_le k b) (filled_cells ws h k) ws ≡ cells_now st ws (accepted_up_to bound (ring_of st ws h) len k).ring.descriptors)
-      × (◌≡◌ {A = Accepting} (cond (nat_le k b) (record { head = filled_head ws h k; answer = counted.Bytes k }) (record { head = h; answer = counted.Refused TooMuch }))
+      × (◌≡◌ {A = Accepting} (cond (nat_le k b) (record { head = filled_head ws h k; answer = Ok k }) (record { head = h; answer = Err TooMuch }))
       (accepting_of (accepted_up_to bound (ring_of st ws h) len k)))
   up_to b bound k e = rw (e, s) (go (nat_le k bound))
     where
       go : (t : Bool)
           → (cond t (filled_cells ws h k) ws
-          ≡ cells_now st ws (cond t (record { ring = advanced Out (ring_of st ws h) k; answer = counted.Bytes k }) (refused (ring_of st ws h) (counted.Refused TooMuch))).ring.descriptors)
-          × (◌≡◌ {A = Accepting} (cond t (record { head = filled_head ws h k; answer = counted.Bytes k }) (record { head = h; answer = counted.Refused TooMuch }))
-          (accepting_of (cond t (record { ring = advanced Out (ring_of st ws h) k; answer = counted.Bytes k }) (refused (ring_of st ws h) (counted.Refused TooMuch)))))
-      go true = (filled-cells k, ap (λ (x : Head). record { head = x; answer = counted.Bytes k }) (filled-head k))
+          ≡ cells_now st ws (cond t (record { ring = advanced Out (ring_of st ws h) k; answer = Ok k }) (refused (ring_of st ws h) (Err TooMuch))).ring.descriptors)
+          × (◌≡◌ {A = Accepting} (cond t (record { head = filled_head ws h k; answer = Ok k }) (record { head = h; answer = Err TooMuch }))
+          (accepting_of (cond t (record { ring = advanced Out (ring_of st ws h) k; answer = Ok k }) (refused (ring_of st ws h) (Err TooMuch)))))
+      go true = (filled-cells k, ap (λ (x : Head). record { head = x; answer = Ok k }) (filled-head k))
       go false = (cells_same st ws, refl)

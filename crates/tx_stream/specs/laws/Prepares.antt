@@ -1,5 +1,5 @@
 -- `prepare` on the words: where the prefilled bytes end, the records that they fill, and the end of the list.
-use Rattle.std.specs.Prelude.{◌≡◌, ℕ, zero, suc, ◌+◌, ◌-◌, ◌<◌, ◌≤◌, Bool, true, false, cond, List, [], ◌==◌, ◌≢◌, nat_le, nat_lt}
+use Rattle.std.specs.Prelude.{◌≡◌, ℕ, zero, suc, ◌+◌, ◌-◌, ◌<◌, ◌≤◌, Bool, true, false, cond, List, [], ◌==◌, ◌≢◌, nat_le, nat_lt, Ok, None}
 use Rattle.std.proofs.Math.Path.{refl}
 use Rattle.std.proofs.Common.{sym, ◌∙◌, ap}
 use native.Mathlib.Omega.{arith}
@@ -16,10 +16,8 @@ use Rattle.descriptors.specs.laws.Words.{cells_are}
 use Rattle.descriptors.specs.laws.Sound.{split-facts, split-records}
 use Rattle.descriptors.specs.laws.Walks.{Alike, cells-alike}
 use Rattle.descriptors.specs.declared.record.Owner.TheVariants.{Cpu}
-use Rattle.descriptors.specs.declared.record.Next.TheVariants.{Nothing}
 use Rattle.descriptors.specs.declared.record.DmaDescriptor.{DmaDescriptor}
 use Rattle.descriptors.specs.declared.record.TransferDirection.TheVariants.{Out}
-use Rattle.descriptors.specs.declared.refusal.Done.TheVariants as done
 use Rattle.descriptors.specs.declared.ring.Head.{Head}
 use Rattle.descriptors.specs.declared.ring.Headed.{Headed}
 use Rattle.tx_stream.specs.Transmit.{Reached, reached, filled, filled_to, cut, cut_at, Marked, marked_at, marked_ready, prepare_of}
@@ -92,16 +90,16 @@ module _ (c : ℕ) (ws : List ℕ) where
   cut_below zero h = refl
   cut_below (suc i) h = rw (lt-leb c i (omega arith), ne_eqb (i + 1) c (λ z. omega arith)) (cut_below i (omega arith))
 
-  pub cut-before : 0 < c → put_next ws (c - 1) Nothing ≡ up_to (cut_cells c) c ws
+  pub cut-before : 0 < c → put_next ws (c - 1) None ≡ up_to (cut_cells c) c ws
   unfolding up_to cut_cells
   cut-before h = go c refl
     where
-      go : (k : ℕ) → k ≡ c → put_next ws (c - 1) Nothing ≡ up_to (cut_cells c) k ws
+      go : (k : ℕ) → k ≡ c → put_next ws (c - 1) None ≡ up_to (cut_cells c) k ws
       go zero e = absurd (omega arith)
       go (suc k) e =
           let p : c - 1 ≡ k = omega arith in
           rw (p, lt-leb c k (omega arith), eq-eqb (k + 1) c (omega arith))
-          (ap (λ (vs : List ℕ). put_next vs k Nothing) (sym (cut_below k (omega arith))))
+          (ap (λ (vs : List ℕ). put_next vs k None) (sym (cut_below k (omega arith))))
 
 pub cut-first : (ws : List ℕ) → ws ≡ up_to (cut_cells 0) 0 ws
 cut-first ws = sym (up_none (cut_cells 0) ws)
@@ -134,9 +132,9 @@ cut-lifts : (st : List ℕ) (c i : ℕ) → Lifts st (cut_cells c i) (λ ds. upd
 unfolding cut_cells
 cut-lifts st c i = go (nat_le c i) (i + 1 == c)
   where
-    go : (x y : Bool) → Lifts st (λ ws. cond x (put_owner ws i Cpu) (cond y (put_next ws i Nothing) ws)) (λ ds. update ds i (λ d. cond x (with_owner Cpu d) (cond y (with_next Nothing d) d)))
+    go : (x y : Bool) → Lifts st (λ ws. cond x (put_owner ws i Cpu) (cond y (put_next ws i None) ws)) (λ ds. update ds i (λ d. cond x (with_owner Cpu d) (cond y (with_next None d) d)))
     go true y = owner-lifts st i Cpu
-    go false true = next-lifts st i Nothing refl
+    go false true = next-lifts st i None refl
     go false false = λ ws a. (a, sym (set-get_or (records_of st ws) i blank))
 
 ends-lifts : (st : List ℕ) (n c : ℕ) → Lifts st (up_to (cut_cells c) n) (cut_at n c)
@@ -189,7 +187,7 @@ module _ (st ws : List ℕ) (h : Head) (len : ℕ) (s : split_sound (ring_of st 
   linked_cells = up_to (link_cells Out h.count) h.count ws
 
   pub prepared : (marked_cells h.count h.pre_filled (up_to (link_cells Out h.count) h.count ws) ≡ cells_now st ws (prepare_of (ring_of st ws h) len).ring.descriptors)
-      × (◌≡◌ {A = Headed} (record { head = prepared_head h (marked_cursor h.count h.pre_filled (up_to (link_cells Out h.count) h.count ws)); answer = done.Ready })
+      × (◌≡◌ {A = Headed} (record { head = prepared_head h (marked_cursor h.count h.pre_filled (up_to (link_cells Out h.count) h.count ws)); answer = Ok tt })
       (headed_of (prepare_of (ring_of st ws h) len)))
   prepared =
       let n : ℕ = h.count in
@@ -201,7 +199,7 @@ module _ (st ws : List ℕ) (h : Head) (len : ℕ) (s : split_sound (ring_of st 
       let q : marked_ready n b (records_of st vs) ≡ marked_ready n b (linked_all Out n (records_of st ws)) = ap (marked_ready n b) l.1 in
       rw (prepare-yes (ring_of st ws h) len s) (
         cells_are st ws (marked_cells n b vs) _ a m.whole (m.shown ∙ ap (λ (k : Marked). k.descriptors) q),
-        ap (λ (c : Cursor). record { head = prepared_head h c; answer = done.Ready }) (m.cursor ∙ ap (λ (k : Marked). record { at = k.at; offset = k.offset }) q),
+        ap (λ (c : Cursor). record { head = prepared_head h c; answer = Ok tt }) (m.cursor ∙ ap (λ (k : Marked). record { at = k.at; offset = k.offset }) q),
       )
 
 -- ---- the cases of `mark_tx_stream_descriptors_ready`

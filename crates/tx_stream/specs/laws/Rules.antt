@@ -1,5 +1,5 @@
 -- Each rule where the ring is refused, and where it is sound; and what the judge's answer tells of it.
-use Rattle.std.specs.Prelude.{◌≡◌, ℕ, ◌+◌, ◌-◌, ◌%◌, ◌^◌, min, Bool, true, false, List, [], length, take, drop, nat_le, refl}
+use Rattle.std.specs.Prelude.{◌≡◌, ℕ, ◌+◌, ◌-◌, ◌%◌, ◌^◌, min, Bool, true, false, List, [], length, take, drop, nat_le, refl, Ok, Err}
 use Rattle.std.proofs.Common.{sym, ◌∙◌, ap, arith}
 use Rattle.std.proofs.Math.Seq.{paste}
 use Rattle.std.specs.Borrow.{Bor}
@@ -9,58 +9,56 @@ use Rattle.descriptors.specs.laws.Tests.{not-both}
 use Rattle.descriptors.specs.declared.record.TransferDirection.TheVariants.{Out}
 use Rattle.descriptors.specs.declared.refusal.DmaBufError.{DmaBufError}
 use Rattle.descriptors.specs.declared.refusal.DmaBufError.TheVariants.{BadState, TooMuch}
-use Rattle.descriptors.specs.declared.refusal.Counted.TheVariants as counted
-use Rattle.descriptors.specs.declared.refusal.Done.{Done}
-use Rattle.descriptors.specs.declared.refusal.Done.TheVariants as done
 use Rattle.descriptors.specs.Ring.{linked_all}
 use Rattle.tx_stream.specs.Transmit.{prefilled_by, prefill_of, prefill_into, prefill_offer_of, prefill_commit_of, marked_ready, prepared_as, prepare_of, available_of, push_of, push_into, paste_round, write_at, offered, offer_of, accepted_up_to, commit_of, advance_of}
 use Rattle.descriptors.specs.Part.{part_from}
 use Rattle.descriptors.specs.laws.Parts.{front-place}
+use Rattle.descriptors.specs.Refusal.{Answer}
 use Rattle.tx_stream.specs.Faces.{counted_of, prefill_place, offer_place}
 
 -- what the judge refuses is not sound, and the refusal is 5
-pub unsound : (b : Bool) (d : Done) (e : DmaBufError) → d ≡ judged b → d ≡ done.Refused e → b ≡ false
-unsound true d e p q = not-both (let z : judged true ≡ done.Refused e = sym p ∙ q in cc)
+pub unsound : (b : Bool) (d : Answer Unit) (e : DmaBufError) → d ≡ judged b → d ≡ Err e → b ≡ false
+unsound true d e p q = not-both (let z : judged true ≡ Err e = sym p ∙ q in cc)
 unsound false d e p q = refl
 
-pub bad-state : (b : Bool) (d : Done) → d ≡ judged b → b ≡ false → counted_of d ≡ counted.Refused BadState
+pub bad-state : (b : Bool) (d : Answer Unit) → d ≡ judged b → b ≡ false → counted_of d ≡ Err BadState
 bad-state b d p e = ap counted_of (p ∙ ap judged e)
 
-pub bad-done : (b : Bool) (d : Done) → d ≡ judged b → b ≡ false → d ≡ done.Refused BadState
+pub bad-done : (b : Bool) (d : Answer Unit) → d ≡ judged b → b ≡ false → d ≡ Err BadState
 bad-done b d p e = p ∙ ap judged e
 
 -- ---- before `prepare`
 
 module _ (r : Ring) (len : ℕ) (e : split_sound r len ≡ false) where
-  pub prefill-no : (k : ℕ) → prefill_of r len k ≡ refused r (counted.Refused BadState)
+  pub prefill-no : (k : ℕ) → prefill_of r len k ≡ refused r (Err BadState)
   unfolding prefill_of
   prefill-no k = rw e
 
-  pub prefill-commit-no : (k : ℕ) → prefill_commit_of r len k ≡ refused r (counted.Refused BadState)
+  pub prefill-commit-no : (k : ℕ) → prefill_commit_of r len k ≡ refused r (Err BadState)
   unfolding prefill_commit_of
   prefill-commit-no k = rw e
 
-  pub prepare-no : prepare_of r len ≡ refused r (done.Refused BadState)
+  pub prepare-no : prepare_of r len ≡ refused r (Err BadState)
   unfolding prepare_of
   prepare-no = rw e
 
 module _ (r : Ring) (len : ℕ) (e : split_sound r len ≡ true) where
   pub prefill-yes : (k : ℕ)
-      → prefill_of r len k ≡ record { ring = prefilled_by r (min k (len - r.prefilled)); answer = counted.Bytes (min k (len - r.prefilled)) }
+      → prefill_of r len k ≡ record { ring = prefilled_by r (min k (len - r.prefilled)); answer = Ok (min k (len - r.prefilled)) }
   unfolding prefill_of
   prefill-yes k = rw e
 
   pub prefill-commit-yes : (k : ℕ) → nat_le k (len - r.prefilled) ≡ true
-      → prefill_commit_of r len k ≡ record { ring = prefilled_by r k; answer = counted.Bytes k }
+      → prefill_commit_of r len k ≡ record { ring = prefilled_by r k; answer = Ok k }
   unfolding prefill_commit_of
   prefill-commit-yes k l = rw (e, l)
 
-  pub prefill-commit-much : (k : ℕ) → nat_le k (len - r.prefilled) ≡ false → prefill_commit_of r len k ≡ refused r (counted.Refused TooMuch)
+  pub prefill-commit-much : (k : ℕ) → nat_le k (len - r.prefilled) ≡ false → prefill_commit_of r len k ≡ refused r (Err TooMuch)
   unfolding prefill_commit_of
   prefill-commit-much k l = rw (e, l)
 
   pub prepare-yes : prepare_of r len
-      ≡ record { ring = prepared_as r (marked_ready r.count r.prefilled (linked_all Out r.count r.descriptors)); answer = done.Ready }
+      ≡ record { ring = prepared_as r (marked_ready r.count r.prefilled (linked_all Out r.count r.descriptors)); answer = Ok tt }
   unfolding prepare_of
   prepare-yes = rw e
 
@@ -84,32 +82,32 @@ prefill-offer-yes r bytes e = rw e
 -- ---- after it
 
 module _ (r : Ring) (len : ℕ) (e : sound Out r len ≡ false) where
-  pub available-no : available_of r len ≡ counted.Refused BadState
+  pub available-no : available_of r len ≡ Err BadState
   unfolding available_of
   available-no = rw e
 
-  pub push-no : (k : ℕ) → push_of r len k ≡ refused r (counted.Refused BadState)
+  pub push-no : (k : ℕ) → push_of r len k ≡ refused r (Err BadState)
   unfolding push_of
   push-no k = rw e
 
-  pub up-to-no : (bound k : ℕ) → accepted_up_to bound r len k ≡ refused r (counted.Refused BadState)
+  pub up-to-no : (bound k : ℕ) → accepted_up_to bound r len k ≡ refused r (Err BadState)
   up-to-no bound k = rw e
 
-  pub advance-no : (k : ℕ) → advance_of r len k ≡ refused r (counted.Refused BadState)
+  pub advance-no : (k : ℕ) → advance_of r len k ≡ refused r (Err BadState)
   unfolding advance_of
   advance-no k = up-to-no (available_in Out r) k
 
-  pub commit-no : (k : ℕ) → commit_of r len k ≡ refused r (counted.Refused BadState)
+  pub commit-no : (k : ℕ) → commit_of r len k ≡ refused r (Err BadState)
   unfolding commit_of
   commit-no k = up-to-no (offered r len) k
 
 module _ (r : Ring) (len : ℕ) (e : sound Out r len ≡ true) where
-  pub available-yes : available_of r len ≡ counted.Bytes (available_in Out r)
+  pub available-yes : available_of r len ≡ Ok (available_in Out r)
   unfolding available_of
   available-yes = rw e
 
   pub push-yes : (k : ℕ)
-      → push_of r len k ≡ record { ring = advanced Out r (min k (available_in Out r)); answer = counted.Bytes (min k (available_in Out r)) }
+      → push_of r len k ≡ record { ring = advanced Out r (min k (available_in Out r)); answer = Ok (min k (available_in Out r)) }
   unfolding push_of
   push-yes k = rw e
 

@@ -1,3 +1,4 @@
+use Rattle.std.proofs.lemmas.Result.{err_from_is_err_and}
 use Rattle.descriptors.specs.declared.record.TransferDirection.{TransferDirection}
 use Rattle.descriptors.specs.declared.ring.Head.{Head}
 use Rattle.descriptors.specs.laws.Tests.{and-pass, and-fail}
@@ -10,10 +11,11 @@ use Rattle.std.proofs.Common.{◌≡◌, ℕ, ◌≤◌, Bool, true, ◌&&◌, l
 use borrow.Author.Tests.{not-true, not-false}
 use Rattle.descriptors.proofs.ring.judge.Goals as goal
 
-pub returns-in_default : goal.returns-in_default
-returns-in_default c =
+pub returns-in_err-judge_split : goal.returns-in_err-judge_split
+returns-in_err-judge_split c =
     let a = c.args in
-    c.judge_split-answer.ensures ∙ ap judged (sym (refused-split a.dir (ring_of a.s.now a.w.now a.h) a.len c.judge_split-answer.result _ c.judge_split-answer.ensures c.in_default.is))
+    let p = err_from_is_err_and c.from_residual.result c.from_residual.ensures.1 in
+    rw (p.1, p.2) (sym c.in_err-judge_split.was ∙ c.judge_split.ensures ∙ ap judged (sym (refused-split a.dir (ring_of a.s.now a.w.now a.h) a.len _ _ c.judge_split.ensures c.in_err-judge_split.was)))
 
 pub lengths_ok-requires : goal.lengths_ok-requires
 lengths_ok-requires c =
@@ -21,7 +23,7 @@ lengths_ok-requires c =
     let ws : List ℕ = c.args.w.now in
     let head : Head = c.args.h in
     let size : ℕ = c.args.len in
-    let split-sound : split_sound (ring_of st ws head) size ≡ true = ready-split _ _ c.judge_split-answer.ensures c.in-Ready.is in
+    let split-sound : split_sound (ring_of st ws head) size ≡ true = ready-split _ _ _ c.judge_split.ensures c.in_ok-judge_split.was in
     let held : are_records st ws ≡ true = split-records st ws head size split-sound in
     let room : head.count ≤ limit = (split-facts (ring_of st ws head) size split-sound).parts.many in
     ((words st ws held).whole, room)
@@ -33,7 +35,7 @@ returns-then-not-lengths_ok c =
     let ws : List ℕ = c.args.w.now in
     let head : Head = c.args.h in
     let size : ℕ = c.args.len in
-    let split-sound : split_sound (ring_of st ws head) size ≡ true = ready-split _ _ c.judge_split-answer.ensures c.in-Ready.is in
+    let split-sound : split_sound (ring_of st ws head) size ≡ true = ready-split _ _ _ c.judge_split.ensures c.in_ok-judge_split.was in
     ap judged (sym (sound-stops way st ws head size split-sound _ c.lengths_ok.ensures (not-true _ c.if-not-lengths_ok.true-raw)))
 
 pub nexts_ok-requires : goal.nexts_ok-requires
@@ -42,7 +44,7 @@ nexts_ok-requires c =
     let ws : List ℕ = c.args.w.now in
     let head : Head = c.args.h in
     let size : ℕ = c.args.len in
-    let split-sound : split_sound (ring_of st ws head) size ≡ true = ready-split _ _ c.judge_split-answer.ensures c.in-Ready.is in
+    let split-sound : split_sound (ring_of st ws head) size ≡ true = ready-split _ _ _ c.judge_split.ensures c.in_ok-judge_split.was in
     let held : are_records st ws ≡ true = split-records st ws head size split-sound in
     let room : head.count ≤ limit = (split-facts (ring_of st ws head) size split-sound).parts.many in
     ((words st ws held).whole, room)
@@ -54,7 +56,7 @@ returns-then-not-nexts_ok c =
     let ws : List ℕ = c.args.w.now in
     let head : Head = c.args.h in
     let size : ℕ = c.args.len in
-    let split-sound : split_sound (ring_of st ws head) size ≡ true = ready-split _ _ c.judge_split-answer.ensures c.in-Ready.is in
+    let split-sound : split_sound (ring_of st ws head) size ≡ true = ready-split _ _ _ c.judge_split.ensures c.in_ok-judge_split.was in
     ap judged (sym ((let it : sound way (ring_of st ws head) size ≡ (c.nexts_ok.result && (ltb head.descriptor_idx head.count && (offset_ok way (record_at [] ws head.descriptor_idx) head.descriptor_offset))) = sound-by way st ws head size split-sound _ _ (offset_ok way (record_at [] ws head.descriptor_idx) head.descriptor_offset) c.lengths_ok.ensures c.nexts_ok.ensures refl ∙ and-pass c.lengths_ok.result (c.nexts_ok.result && (ltb head.descriptor_idx head.count && (offset_ok way (record_at [] ws head.descriptor_idx) head.descriptor_offset))) (not-false _ c.if-not-lengths_ok.false-raw) in it) ∙ and-fail c.nexts_ok.result (ltb head.descriptor_idx head.count && (offset_ok way (record_at [] ws head.descriptor_idx) head.descriptor_offset)) (not-true _ c.if-not-nexts_ok.true-raw)))
 
 pub returns-then-n-i : goal.returns-then-n-i
@@ -64,7 +66,7 @@ returns-then-n-i c =
     let ws : List ℕ = c.args.w.now in
     let head : Head = c.args.h in
     let size : ℕ = c.args.len in
-    let split-sound : split_sound (ring_of st ws head) size ≡ true = ready-split _ _ c.judge_split-answer.ensures c.in-Ready.is in
+    let split-sound : split_sound (ring_of st ws head) size ≡ true = ready-split _ _ _ c.judge_split.ensures c.in_ok-judge_split.was in
     ap judged (sym ((let it : sound way (ring_of st ws head) size ≡ (c.nexts_ok.result && (ltb head.descriptor_idx head.count && (offset_ok way (record_at [] ws head.descriptor_idx) head.descriptor_offset))) = sound-by way st ws head size split-sound _ _ (offset_ok way (record_at [] ws head.descriptor_idx) head.descriptor_offset) c.lengths_ok.ensures c.nexts_ok.ensures refl ∙ and-pass c.lengths_ok.result (c.nexts_ok.result && (ltb head.descriptor_idx head.count && (offset_ok way (record_at [] ws head.descriptor_idx) head.descriptor_offset))) (not-false _ c.if-not-lengths_ok.false-raw) in it) ∙ and-pass c.nexts_ok.result (ltb head.descriptor_idx head.count && (offset_ok way (record_at [] ws head.descriptor_idx) head.descriptor_offset)) (not-false _ c.if-not-nexts_ok.false-raw) ∙ and-fail (ltb head.descriptor_idx head.count) (offset_ok way (record_at [] ws head.descriptor_idx) head.descriptor_offset) (le-ltb _ _ c.if-n-i.true)))
 
 pub returns-then-not-offset_ok : goal.returns-then-not-offset_ok
@@ -74,7 +76,7 @@ returns-then-not-offset_ok c =
     let ws : List ℕ = c.args.w.now in
     let head : Head = c.args.h in
     let size : ℕ = c.args.len in
-    let split-sound : split_sound (ring_of st ws head) size ≡ true = ready-split _ _ c.judge_split-answer.ensures c.in-Ready.is in
+    let split-sound : split_sound (ring_of st ws head) size ≡ true = ready-split _ _ _ c.judge_split.ensures c.in_ok-judge_split.was in
     let o : Bool = c.offset_ok.result in
     ap judged (sym ((let it : sound way (ring_of st ws head) size ≡ (c.nexts_ok.result && (ltb head.descriptor_idx head.count && o)) = sound-by way st ws head size split-sound _ _ o c.lengths_ok.ensures c.nexts_ok.ensures c.offset_ok.ensures ∙ and-pass c.lengths_ok.result (c.nexts_ok.result && (ltb head.descriptor_idx head.count && o)) (not-false _ c.if-not-lengths_ok.false-raw) in it) ∙ and-pass c.nexts_ok.result (ltb head.descriptor_idx head.count && o) (not-false _ c.if-not-nexts_ok.false-raw) ∙ and-pass (ltb head.descriptor_idx head.count) o (lt-ltb _ _ c.if-n-i.false) ∙ not-true _ c.if-not-offset_ok.true-raw))
 
@@ -85,6 +87,6 @@ returns c =
     let ws : List ℕ = c.args.w.now in
     let head : Head = c.args.h in
     let size : ℕ = c.args.len in
-    let split-sound : split_sound (ring_of st ws head) size ≡ true = ready-split _ _ c.judge_split-answer.ensures c.in-Ready.is in
+    let split-sound : split_sound (ring_of st ws head) size ≡ true = ready-split _ _ _ c.judge_split.ensures c.in_ok-judge_split.was in
     let o : Bool = c.offset_ok.result in
     ap judged (sym ((let it : sound way (ring_of st ws head) size ≡ (c.nexts_ok.result && (ltb head.descriptor_idx head.count && o)) = sound-by way st ws head size split-sound _ _ o c.lengths_ok.ensures c.nexts_ok.ensures c.offset_ok.ensures ∙ and-pass c.lengths_ok.result (c.nexts_ok.result && (ltb head.descriptor_idx head.count && o)) (not-false _ c.if-not-lengths_ok.false-raw) in it) ∙ and-pass c.nexts_ok.result (ltb head.descriptor_idx head.count && o) (not-false _ c.if-not-nexts_ok.false-raw) ∙ and-pass (ltb head.descriptor_idx head.count) o (lt-ltb _ _ c.if-n-i.false) ∙ not-false _ c.if-not-offset_ok.false-raw))

@@ -13,7 +13,7 @@ use Rattle.descriptors.proofs.ring.judge_split.Goals as goal
 pub returns-in_default : goal.returns-in_default
 returns-in_default c =
     let a = c.args in
-    ap judged (sym (split-refused (ring_of a.s.now a.w.now a.h) a.len (ap is_parts (sym c.split_of-parts.ensures ∙ c.in_default.is))))
+    ap judged (sym (split-refused (ring_of a.s.now a.w.now a.h) a.len (ap is_parts (sym c.split_of.ensures ∙ c.in_default.is))))
 
 pub returns-then-not-are_records : goal.returns-then-not-are_records
 returns-then-not-are_records c =
@@ -21,7 +21,7 @@ returns-then-not-are_records c =
     let ws : List ℕ = c.args.w.now in
     let head : Head = c.args.h in
     let size : ℕ = c.args.len in
-    let known : Known head.count size c.in-Parts.chunk c.in-Parts.rest = parts-known _ _ _ _ (sym c.split_of-parts.ensures ∙ c.in-Parts.is) in
+    let known : Known head.count size c.in-Ok.field-0.chunk c.in-Ok.field-0.rest = parts-known _ _ _ (sym c.split_of.ensures ∙ c.in-Ok.is) in
     ap judged (sym (split-no-records st ws head size (sym c.are_records.ensures ∙ not-true _ c.if-not-are_records.true-raw) known.facts))
 
 pub starts_ok-requires : goal.starts_ok-requires
@@ -30,7 +30,7 @@ starts_ok-requires c =
     let ws : List ℕ = c.args.w.now in
     let head : Head = c.args.h in
     let size : ℕ = c.args.len in
-    let known : Known head.count size c.in-Parts.chunk c.in-Parts.rest = parts-known _ _ _ _ (sym c.split_of-parts.ensures ∙ c.in-Parts.is) in
+    let known : Known head.count size c.in-Ok.field-0.chunk c.in-Ok.field-0.rest = parts-known _ _ _ (sym c.split_of.ensures ∙ c.in-Ok.is) in
     let held : are_records st ws ≡ true = sym c.are_records.ensures ∙ not-false _ c.if-not-are_records.false-raw in
     ((words st ws held).starts, known.facts.many, omega (arith, known.chunk-is, known.facts.chunk))
 
@@ -40,7 +40,7 @@ returns-then-not-starts_ok c =
     let ws : List ℕ = c.args.w.now in
     let head : Head = c.args.h in
     let size : ℕ = c.args.len in
-    let known : Known head.count size c.in-Parts.chunk c.in-Parts.rest = parts-known _ _ _ _ (sym c.split_of-parts.ensures ∙ c.in-Parts.is) in
+    let known : Known head.count size c.in-Ok.field-0.chunk c.in-Ok.field-0.rest = parts-known _ _ _ (sym c.split_of.ensures ∙ c.in-Ok.is) in
     let held : are_records st ws ≡ true = sym c.are_records.ensures ∙ not-false _ c.if-not-are_records.false-raw in
     ap judged (sym (split-stops st ws head size _ _ known held _ c.starts_ok.ensures (not-true _ c.if-not-starts_ok.true-raw)))
 
@@ -48,7 +48,7 @@ pub overflow_add-chunk : goal.overflow_add-chunk
 overflow_add-chunk c =
     let head : Head = c.args.h in
     let size : ℕ = c.args.len in
-    let known : Known head.count size c.in-Parts.chunk c.in-Parts.rest = parts-known _ _ _ _ (sym c.split_of-parts.ensures ∙ c.in-Parts.is) in
+    let known : Known head.count size c.in-Ok.field-0.chunk c.in-Ok.field-0.rest = parts-known _ _ _ (sym c.split_of.ensures ∙ c.in-Ok.is) in
     omega (arith, known.chunk-is, known.rest-is, known.facts.last)
 
 pub sizes_ok-requires : goal.sizes_ok-requires
@@ -57,7 +57,7 @@ sizes_ok-requires c =
     let ws : List ℕ = c.args.w.now in
     let head : Head = c.args.h in
     let size : ℕ = c.args.len in
-    let known : Known head.count size c.in-Parts.chunk c.in-Parts.rest = parts-known _ _ _ _ (sym c.split_of-parts.ensures ∙ c.in-Parts.is) in
+    let known : Known head.count size c.in-Ok.field-0.chunk c.in-Ok.field-0.rest = parts-known _ _ _ (sym c.split_of.ensures ∙ c.in-Ok.is) in
     let held : are_records st ws ≡ true = sym c.are_records.ensures ∙ not-false _ c.if-not-are_records.false-raw in
     ((words st ws held).whole, omega (arith, known.facts.few), known.facts.many, omega (arith, known.chunk-is, known.facts.chunk), omega (arith, known.chunk-is, known.rest-is, known.facts.last))
 
@@ -66,7 +66,7 @@ returns-then-not-sizes_ok c =
     let head : Head = c.args.h in
     let size : ℕ = c.args.len in
     let st : List ℕ = c.args.s.now in
-    let known : Known head.count size c.in-Parts.chunk c.in-Parts.rest = parts-known _ _ _ _ (sym c.split_of-parts.ensures ∙ c.in-Parts.is) in
+    let known : Known head.count size c.in-Ok.field-0.chunk c.in-Ok.field-0.rest = parts-known _ _ _ (sym c.split_of.ensures ∙ c.in-Ok.is) in
     let ws : List ℕ = c.args.w.now in
     let held : are_records st ws ≡ true = sym c.are_records.ensures ∙ not-false _ c.if-not-are_records.false-raw in
     let tested : split_sound (ring_of st ws head) size ≡ (c.sizes_ok.result && leb head.pre_filled size) = split_by st ws head size _ _ known held _ _ c.starts_ok.ensures c.sizes_ok.ensures
@@ -78,7 +78,7 @@ returns-then-len-h c =
     let head : Head = c.args.h in
     let size : ℕ = c.args.len in
     let st : List ℕ = c.args.s.now in
-    let known : Known head.count size c.in-Parts.chunk c.in-Parts.rest = parts-known _ _ _ _ (sym c.split_of-parts.ensures ∙ c.in-Parts.is) in
+    let known : Known head.count size c.in-Ok.field-0.chunk c.in-Ok.field-0.rest = parts-known _ _ _ (sym c.split_of.ensures ∙ c.in-Ok.is) in
     let ws : List ℕ = c.args.w.now in
     let held : are_records st ws ≡ true = sym c.are_records.ensures ∙ not-false _ c.if-not-are_records.false-raw in
     let tested : split_sound (ring_of st ws head) size ≡ (c.sizes_ok.result && leb head.pre_filled size) = split_by st ws head size _ _ known held _ _ c.starts_ok.ensures c.sizes_ok.ensures
@@ -90,7 +90,7 @@ returns c =
     let head : Head = c.args.h in
     let size : ℕ = c.args.len in
     let st : List ℕ = c.args.s.now in
-    let known : Known head.count size c.in-Parts.chunk c.in-Parts.rest = parts-known _ _ _ _ (sym c.split_of-parts.ensures ∙ c.in-Parts.is) in
+    let known : Known head.count size c.in-Ok.field-0.chunk c.in-Ok.field-0.rest = parts-known _ _ _ (sym c.split_of.ensures ∙ c.in-Ok.is) in
     let ws : List ℕ = c.args.w.now in
     let held : are_records st ws ≡ true = sym c.are_records.ensures ∙ not-false _ c.if-not-are_records.false-raw in
     let tested : split_sound (ring_of st ws head) size ≡ (c.sizes_ok.result && leb head.pre_filled size) = split_by st ws head size _ _ known held _ _ c.starts_ok.ensures c.sizes_ok.ensures

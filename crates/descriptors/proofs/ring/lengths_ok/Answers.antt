@@ -8,13 +8,11 @@ use Rattle.descriptors.proofs.ring.lengths_ok.Goals as goal
 pub loop-i-preserved : goal.loop-i-preserved
 loop-i-preserved c =
     let a = c.args in
-    let p : ℕ → Bool = λ j. leb (get_or a.w.now (limit + j) 0) (get_or a.w.now j 0) in (
-      omega arith,
-      elim c.if-w-i.branch [ then-w-i w ↦ w.ok-is ∙ flag_cleared p c.loop-i.i (lt-leb _ _ w.if-w-i.true) | else-w-i w ↦ w.ok-is ∙ flag-kept p c.loop-i.i c.loop-i.ok c.loop-i.invariant.1 (le-leb _ _ w.if-w-i.false) ],
-    )
+    let p : ℕ → Bool = λ j. leb (get_or a.w.now (limit + j) 0) (get_or a.w.now j 0) in
+    elim c.if-w-i.branch [ then-w-i w ↦ w.ok-is ∙ flag_cleared p c.loop-i.i (lt-leb _ _ w.if-w-i.true) | else-w-i w ↦ w.ok-is ∙ flag-kept p c.loop-i.i c.loop-i.ok c.loop-i.invariant (le-leb _ _ w.if-w-i.false) ]
 
 pub returns : goal.returns
 returns c =
     let a = c.args in
     let z : c.loop-i.i ≡ a.n = omega arith in
-    rw z at c.loop-i.invariant.1
+    rw z at c.loop-i.invariant

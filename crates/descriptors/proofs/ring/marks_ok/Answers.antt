@@ -8,13 +8,11 @@ use Rattle.descriptors.proofs.ring.marks_ok.Goals as goal
 pub loop-j-preserved : goal.loop-j-preserved
 loop-j-preserved c =
     let a = c.args in
-    let p : ℕ → Bool = λ j. leb (get_or a.w.now (limit * 3 + j) 0) 1 in (
-      omega arith,
-      elim c.if-w-j-gt1.branch [ then-w-j-gt1 w ↦ w.ok-is ∙ flag_cleared p c.loop-j.j (lt-leb _ _ w.if-w-j-gt1.true) | else-w-j-gt1 w ↦ w.ok-is ∙ flag-kept p c.loop-j.j c.loop-j.ok c.loop-j.invariant.1 (le-leb _ _ w.if-w-j-gt1.false) ],
-    )
+    let p : ℕ → Bool = λ j. leb (get_or a.w.now (limit * 3 + j) 0) 1 in
+    elim c.if-w-j-gt1.branch [ then-w-j-gt1 w ↦ w.ok-is ∙ flag_cleared p c.loop-j.j (lt-leb _ _ w.if-w-j-gt1.true) | else-w-j-gt1 w ↦ w.ok-is ∙ flag-kept p c.loop-j.j c.loop-j.ok c.loop-j.invariant (le-leb _ _ w.if-w-j-gt1.false) ]
 
 pub returns : goal.returns
 returns c =
     let a = c.args in
     let z : c.loop-j.j ≡ 2 * limit = omega arith in
-    rw z at c.loop-j.invariant.1
+    rw z at c.loop-j.invariant

@@ -8,13 +8,11 @@ use Rattle.descriptors.proofs.ring.nexts_ok.Goals as goal
 pub loop-i-preserved : goal.loop-i-preserved
 loop-i-preserved c =
     let a = c.args in
-    let p : ℕ → Bool = λ j. leb (get_or a.w.now (limit * 2 + j) 0) a.n in (
-      omega arith,
-      elim c.if-most-w.branch [ then-most-w w ↦ w.ok-is ∙ flag_cleared p c.loop-i.i (lt-leb _ _ w.if-most-w.true) | else-most-w w ↦ w.ok-is ∙ flag-kept p c.loop-i.i c.loop-i.ok c.loop-i.invariant.1 (le-leb _ _ w.if-most-w.false) ],
-    )
+    let p : ℕ → Bool = λ j. leb (get_or a.w.now (limit * 2 + j) 0) a.n in
+    elim c.if-most-w.branch [ then-most-w w ↦ w.ok-is ∙ flag_cleared p c.loop-i.i (lt-leb _ _ w.if-most-w.true) | else-most-w w ↦ w.ok-is ∙ flag-kept p c.loop-i.i c.loop-i.ok c.loop-i.invariant (le-leb _ _ w.if-most-w.false) ]
 
 pub returns : goal.returns
 returns c =
     let a = c.args in
     let z : c.loop-i.i ≡ a.n = omega arith in
-    rw z at c.loop-i.invariant.1
+    rw z at c.loop-i.invariant

@@ -20,16 +20,15 @@ but_last p n true h g =
 pub loop-i-init : goal.loop-i-init
 loop-i-init c =
     let a = c.args in
-    (omega arith, rw c.scan_end-end.ensures (end-near (eqb a.last a.chunk) a.n), c.scan_end-end.ensures, refl)
+    (rw c.scan_end-end.ensures (end-near (eqb a.last a.chunk) a.n), c.scan_end-end.ensures, refl)
 
 pub loop-i-preserved : goal.loop-i-preserved
 loop-i-preserved c =
     let a = c.args in
     let p : ℕ → Bool = λ j. eqb (get_or a.w.now j 0) a.chunk in (
-      omega arith,
+      c.loop-i.invariant.0,
       c.loop-i.invariant.1,
-      c.loop-i.invariant.2,
-      elim c.if-w-i.branch [ then-w-i w ↦ w.ok-is ∙ flag_cleared p c.loop-i.i (ne_eqb _ _ w.if-w-i.true) | else-w-i w ↦ w.ok-is ∙ flag-kept p c.loop-i.i c.loop-i.ok c.loop-i.invariant.3 (eq-eqb _ _ w.if-w-i.false) ],
+      elim c.if-w-i.branch [ then-w-i w ↦ w.ok-is ∙ flag_cleared p c.loop-i.i (ne_eqb _ _ w.if-w-i.true) | else-w-i w ↦ w.ok-is ∙ flag-kept p c.loop-i.i c.loop-i.ok c.loop-i.invariant.2 (eq-eqb _ _ w.if-w-i.false) ],
     )
 
 pub returns-then-w-n : goal.returns-then-w-n
@@ -42,5 +41,5 @@ returns c =
     let a = c.args in
     let p : ℕ → Bool = λ j. eqb (get_or a.w.now j 0) a.chunk in
     let last : get_or a.w.now (a.n - 1) 0 ≡ a.last = c.if-w-n.false in
-    let z : c.loop-i.i ≡ cond (eqb a.last a.chunk) a.n (a.n - 1) = (let e : c.loop-i.i ≡ _ = omega arith in e) ∙ c.loop-i.invariant.2 in
-    rw (eq-eqb _ _ last) (c.loop-i.invariant.3 ∙ ap (all_below p) z ∙ but_last p a.n (eqb a.last a.chunk) (omega arith) (λ e. eq-eqb _ _ (last ∙ eqb-true _ _ e)) ∙ sym (and_right (all_below p (a.n - 1))))
+    let z : c.loop-i.i ≡ cond (eqb a.last a.chunk) a.n (a.n - 1) = (let e : c.loop-i.i ≡ _ = omega arith in e) ∙ c.loop-i.invariant.1 in
+    rw (eq-eqb _ _ last) (c.loop-i.invariant.2 ∙ ap (all_below p) z ∙ but_last p a.n (eqb a.last a.chunk) (omega arith) (λ e. eq-eqb _ _ (last ∙ eqb-true _ _ e)) ∙ sym (and_right (all_below p (a.n - 1))))

@@ -25,7 +25,7 @@ module _ (p : ℕ → Bool) (i x due start : ℕ) (q : p i ≡ eqb x due) where
   same false h d e = down p i h
 
 pub loop-i-init : goal.loop-i-init
-loop-i-init c = (omega arith, refl, λ e. omega arith)
+loop-i-init c = (refl, λ e. omega arith)
 
 pub loop-i-preserved : goal.loop-i-preserved
 loop-i-preserved c =
@@ -34,8 +34,7 @@ loop-i-preserved c =
     let i = c.loop-i.i in
     let x = get_or a.s.now i 0 in
     let flag : c.if-s-i.ok ≡ all_below p (i + 1) =
-    elim c.if-s-i.branch [ then-s-i w ↦ w.ok-is ∙ other p i x (i * a.chunk) c.loop-i.start refl c.loop-i.ok c.loop-i.invariant.1 c.loop-i.invariant.2 w.if-s-i.true | else-s-i w ↦ w.ok-is ∙ same p i x (i * a.chunk) c.loop-i.start refl c.loop-i.ok c.loop-i.invariant.1 c.loop-i.invariant.2 w.if-s-i.false ] in (
-      omega arith,
+    elim c.if-s-i.branch [ then-s-i w ↦ w.ok-is ∙ other p i x (i * a.chunk) c.loop-i.start refl c.loop-i.ok c.loop-i.invariant.0 c.loop-i.invariant.1 w.if-s-i.true | else-s-i w ↦ w.ok-is ∙ same p i x (i * a.chunk) c.loop-i.start refl c.loop-i.ok c.loop-i.invariant.0 c.loop-i.invariant.1 w.if-s-i.false ] in (
       flag,
       λ e. c.wrapping_add_u32-start.ensures.value ∙ onward x i a.n a.chunk (all-at p (i + 1) i (sym flag ∙ e) (omega arith)) (omega arith) (omega arith) (omega arith),
     )
@@ -44,4 +43,4 @@ pub returns : goal.returns
 returns c =
     let a = c.args in
     let z : c.loop-i.i ≡ a.n = omega arith in
-    rw z at c.loop-i.invariant.1
+    rw z at c.loop-i.invariant.0

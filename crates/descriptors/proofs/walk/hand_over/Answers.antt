@@ -1,4 +1,4 @@
-use Rattle.std.proofs.Common.{◌≡◌, ℕ, sym, ap, ◌∙◌, arith, rules, le-leb}
+use Rattle.std.proofs.Common.{◌≡◌, ℕ, ◌+◌, ◌-◌, sym, ap, ◌∙◌, arith, rules, le-leb}
 use borrow.Author.Tests.{lt-leb}
 use Rattle.descriptors.specs.laws.Walks.{turns-none, turns_go}
 use Rattle.descriptors.specs.Stores.{hand_cells, hand_all}
@@ -10,17 +10,19 @@ pub returns-then-g-gt-LIMIT : goal.returns-then-g-gt-LIMIT
 unfolding hand_all
 returns-then-g-gt-LIMIT c = sym (rw (lt-leb _ _ c.if-g-gt-LIMIT.true))
 
-pub loop-left-preserved : goal.loop-left-preserved
-loop-left-preserved c =
-    let a = c.args in (
+pub loop-handed-preserved : goal.loop-handed-preserved
+loop-handed-preserved c =
+    let a = c.args in
+    let left : ℕ = a.g - c.loop-handed._handed in
+    let fewer : a.g - (c.loop-handed._handed + 1) ≡ left - 1 = omega arith in (
       search rules,
-      rw (c.after-at.ensures, c.hand_over_one.ensures)
-          (sym (turns_go a.dir (λ i. blank) a.n (hand_cells a.dir a.n) c.loop-left.left c.loop-left.at c.loop-left.w (omega arith)) ∙ c.loop-left.invariant.1),
+      rw (fewer, c.after-at.ensures, c.hand_over_one.ensures)
+          (sym (turns_go a.dir (λ i. blank) a.n (hand_cells a.dir a.n) left c.loop-handed.at c.loop-handed.w (omega arith)) ∙ c.loop-handed.invariant.1),
     )
 
 pub returns : goal.returns
 unfolding hand_all
 returns c =
     let a = c.args in
-    let z : c.loop-left.left ≡ 0 = omega arith in
-    rw (le-leb _ _ c.if-g-gt-LIMIT.false) (sym (turns-none a.dir (λ i. blank) a.n (hand_cells a.dir a.n) c.loop-left.at c.loop-left.w) ∙ ap (λ (k : ℕ). turns (hand_cells a.dir a.n) a.n k c.loop-left.at c.loop-left.w) (sym z) ∙ c.loop-left.invariant.1)
+    let z : a.g - c.loop-handed._handed ≡ 0 = omega arith in
+    rw (le-leb _ _ c.if-g-gt-LIMIT.false) (sym (turns-none a.dir (λ i. blank) a.n (hand_cells a.dir a.n) c.loop-handed.at c.loop-handed.w) ∙ ap (λ (k : ℕ). turns (hand_cells a.dir a.n) a.n k c.loop-handed.at c.loop-handed.w) (sym z) ∙ c.loop-handed.invariant.1)

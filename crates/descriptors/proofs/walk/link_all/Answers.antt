@@ -9,16 +9,16 @@ unfolding link_all
 returns-then-n-gt-LIMIT c = sym (rw (lt-leb _ _ c.if-n-gt-LIMIT.true))
 
 pub loop-i-init : goal.loop-i-init
-loop-i-init c = (search rules, refl, sym (up_none (link_cells c.args.dir c.args.n) c.args.w.now))
+loop-i-init c = (refl, sym (up_none (link_cells c.args.dir c.args.n) c.args.w.now))
 
 pub loop-i-preserved : goal.loop-i-preserved
 loop-i-preserved c =
     let a = c.args in
-    (omega arith, search rules, c.link_one.ensures ∙ ap (link_cells a.dir a.n c.loop-i.i) c.loop-i.invariant.2 ∙ sym (up_more (link_cells a.dir a.n) c.loop-i.i a.w.now))
+    (search rules, c.link_one.ensures ∙ ap (link_cells a.dir a.n c.loop-i.i) c.loop-i.invariant.1 ∙ sym (up_more (link_cells a.dir a.n) c.loop-i.i a.w.now))
 
 pub returns : goal.returns
 unfolding link_all
 returns c =
     let a = c.args in
     let z : c.loop-i.i ≡ a.n = omega arith in
-    rw (le-leb _ _ c.if-n-gt-LIMIT.false) (rw z at c.loop-i.invariant.2)
+    rw (le-leb _ _ c.if-n-gt-LIMIT.false) (rw z at c.loop-i.invariant.1)

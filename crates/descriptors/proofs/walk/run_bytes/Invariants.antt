@@ -3,9 +3,6 @@ use Rattle.descriptors.specs.Cells.{record_at}
 use Rattle.std.proofs.Common.{◌≡◌, ◌+◌, ◌-◌, ◌*◌, ◌≤◌, []}
 use Rattle.descriptors.proofs.walk.run_bytes.Given as goal
 
-abbrev pub invariant-loop-left : goal.invariant-loop-left
-invariant-loop-left l =
-    (l.left ≤ l.n) × (l.total ≤ 65535 * (l.n - l.left)) × (l.total + run_bytes l.dir (record_at [] l.w) l.n l.left l.at ≡ run_bytes l.dir (record_at [] l.w) l.n l.n l.i)
-
-abbrev pub decreases-loop-left : goal.decreases-loop-left
-decreases-loop-left l = l.left
+abbrev pub invariant-loop-passed : goal.invariant-loop-passed
+invariant-loop-passed l =
+    (l.total ≤ 65535 * l._passed) × (l.total + run_bytes l.dir (record_at [] l.w) l.n (l.n - l._passed) l.at ≡ run_bytes l.dir (record_at [] l.w) l.n l.n l.i)

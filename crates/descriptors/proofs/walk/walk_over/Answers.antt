@@ -4,7 +4,7 @@ use Rattle.descriptors.specs.Walk.{walk, walk_in}
 use Rattle.descriptors.specs.Cells.{record_at}
 use Rattle.descriptors.specs.Record.{is_cpu, span_of}
 use borrow.Author.Tests.{not-true, not-false}
-use Rattle.std.proofs.Common.{◌≡◌, ℕ, ◌-◌, [], sym, ap, ◌∙◌, arith}
+use Rattle.std.proofs.Common.{◌≡◌, ℕ, ◌+◌, ◌-◌, [], sym, ap, ◌∙◌, arith}
 use Rattle.descriptors.proofs.walk.walk_over.Goals as goal
 
 pub returns-then-n-gt-LIMIT : goal.returns-then-n-gt-LIMIT
@@ -14,36 +14,41 @@ returns-then-n-gt-LIMIT c =
 
 pub returns-then-not-is_cpu : goal.returns-then-not-is_cpu
 returns-then-not-is_cpu c =
-    let stand : Moved = record { at = c.loop-left.at; offset = c.loop-left.offset; rest = c.loop-left.rest; back = c.loop-left.back } in
+    let stand : Moved = c.loop-passed.moved in
     let whole : let a = c.args in walk a.dir (record_at [] a.w.now) a.n a.n (record { at = a.i; offset = a.o; rest = a.k; back = 0 }) ≡ walk_in a.dir (record_at [] a.w.now) a.n (record { at = a.i; offset = a.o; rest = a.k; back = 0 }) = let a = c.args in sym (walk-in a.dir (record_at [] a.w.now) a.n _ c.if-n-gt-LIMIT.false) in
-    let owned : is_cpu (record_at [] c.args.w.now c.loop-left.at).owner ≡ c.is_cpu.result = ap is_cpu (sym c.owner_of-owner.ensures) ∙ sym c.is_cpu.ensures in
+    let owned : is_cpu (record_at [] c.args.w.now stand.at).owner ≡ c.is_cpu.result = ap is_cpu (sym c.owner_of.ensures) ∙ sym c.is_cpu.ensures in
     let a = c.args in
-    sym (walk-stop a.dir (record_at [] a.w.now) a.n c.loop-left.left stand (owned ∙ not-true _ c.if-not-is_cpu.true-raw)) ∙ c.loop-left.invariant.2 ∙ whole
+    sym (walk-stop a.dir (record_at [] a.w.now) a.n (a.n - c.loop-passed._passed) stand (owned ∙ not-true _ c.if-not-is_cpu.true-raw)) ∙ c.loop-passed.invariant.1 ∙ whole
 
-pub returns-then-rest-stands : goal.returns-then-rest-stands
-returns-then-rest-stands c =
-    let stand : Moved = record { at = c.loop-left.at; offset = c.loop-left.offset; rest = c.loop-left.rest; back = c.loop-left.back } in
+pub returns-then-moved-stands : goal.returns-then-moved-stands
+returns-then-moved-stands c =
+    let stand : Moved = c.loop-passed.moved in
     let whole : let a = c.args in walk a.dir (record_at [] a.w.now) a.n a.n (record { at = a.i; offset = a.o; rest = a.k; back = 0 }) ≡ walk_in a.dir (record_at [] a.w.now) a.n (record { at = a.i; offset = a.o; rest = a.k; back = 0 }) = let a = c.args in sym (walk-in a.dir (record_at [] a.w.now) a.n _ c.if-n-gt-LIMIT.false) in
-    let owned : is_cpu (record_at [] c.args.w.now c.loop-left.at).owner ≡ c.is_cpu.result = ap is_cpu (sym c.owner_of-owner.ensures) ∙ sym c.is_cpu.ensures in
-    let stands : c.less-stands.result ≡ span_of c.args.dir (record_at [] c.args.w.now c.loop-left.at) - c.loop-left.offset = c.less-stands.ensures ∙ ap (λ (k : ℕ). k - c.loop-left.offset) c.span.ensures.0 in
+    let owned : is_cpu (record_at [] c.args.w.now stand.at).owner ≡ c.is_cpu.result = ap is_cpu (sym c.owner_of.ensures) ∙ sym c.is_cpu.ensures in
+    let stands : c.saturating_sub-stands.result ≡ span_of c.args.dir (record_at [] c.args.w.now stand.at) - stand.offset = c.saturating_sub-stands.ensures ∙ ap (λ (k : ℕ). k - stand.offset) c.span.ensures.0 in
     let a = c.args in
-    sym (walk-part a.dir (record_at [] a.w.now) a.n c.loop-left.left stand (omega arith) (owned ∙ not-false _ c.if-not-is_cpu.false-raw)
-    (omega (arith, c.if-rest-stands.true, stands))) ∙ c.loop-left.invariant.2 ∙ whole
+    sym (walk-part a.dir (record_at [] a.w.now) a.n (a.n - c.loop-passed._passed) stand (omega arith) (owned ∙ not-false _ c.if-not-is_cpu.false-raw)
+    (omega (arith, c.if-moved-stands.true, stands))) ∙ c.loop-passed.invariant.1 ∙ whole
 
-pub loop-left-preserved : goal.loop-left-preserved
-loop-left-preserved c =
-    let stand : Moved = record { at = c.loop-left.at; offset = c.loop-left.offset; rest = c.loop-left.rest; back = c.loop-left.back } in
-    let owned : is_cpu (record_at [] c.args.w.now c.loop-left.at).owner ≡ c.is_cpu.result = ap is_cpu (sym c.owner_of-owner.ensures) ∙ sym c.is_cpu.ensures in
-    let stands : c.less-stands.result ≡ span_of c.args.dir (record_at [] c.args.w.now c.loop-left.at) - c.loop-left.offset = c.less-stands.ensures ∙ ap (λ (k : ℕ). k - c.loop-left.offset) c.span.ensures.0 in
+pub overflow_add-moved-in-loop-passed : goal.overflow_add-moved-in-loop-passed
+overflow_add-moved-in-loop-passed c = omega (arith, c.loop-passed.invariant.0)
+
+pub loop-passed-preserved : goal.loop-passed-preserved
+loop-passed-preserved c =
+    let stand : Moved = c.loop-passed.moved in
+    let owned : is_cpu (record_at [] c.args.w.now stand.at).owner ≡ c.is_cpu.result = ap is_cpu (sym c.owner_of.ensures) ∙ sym c.is_cpu.ensures in
+    let stands : c.saturating_sub-stands.result ≡ span_of c.args.dir (record_at [] c.args.w.now stand.at) - stand.offset = c.saturating_sub-stands.ensures ∙ ap (λ (k : ℕ). k - stand.offset) c.span.ensures.0 in
     let a = c.args in
-    let g = walk-go a.dir (record_at [] a.w.now) a.n c.loop-left.left stand (omega arith) (owned ∙ not-false _ c.if-not-is_cpu.false-raw)
-    (omega (arith, c.if-rest-stands.false, stands)) in
-    (omega arith, omega arith, rw (c.after-at.ensures, stands) (sym g ∙ c.loop-left.invariant.2))
+    let left : ℕ = a.n - c.loop-passed._passed in
+    let fewer : a.n - (c.loop-passed._passed + 1) ≡ left - 1 = omega arith in
+    let g = walk-go a.dir (record_at [] a.w.now) a.n left stand (omega arith) (owned ∙ not-false _ c.if-not-is_cpu.false-raw)
+    (omega (arith, c.if-moved-stands.false, stands)) in
+    (omega arith, rw (fewer, c.after.ensures, stands) (sym g ∙ c.loop-passed.invariant.1))
 
 pub returns : goal.returns
 returns c =
-    let stand : Moved = record { at = c.loop-left.at; offset = c.loop-left.offset; rest = c.loop-left.rest; back = c.loop-left.back } in
+    let stand : Moved = c.loop-passed.moved in
     let whole : let a = c.args in walk a.dir (record_at [] a.w.now) a.n a.n (record { at = a.i; offset = a.o; rest = a.k; back = 0 }) ≡ walk_in a.dir (record_at [] a.w.now) a.n (record { at = a.i; offset = a.o; rest = a.k; back = 0 }) = let a = c.args in sym (walk-in a.dir (record_at [] a.w.now) a.n _ c.if-n-gt-LIMIT.false) in
     let a = c.args in
-    let z : c.loop-left.left ≡ 0 = omega arith in
-    sym (walk_none a.dir (record_at [] a.w.now) a.n stand) ∙ ap (λ (k : ℕ). walk a.dir (record_at [] a.w.now) a.n k stand) (sym z) ∙ c.loop-left.invariant.2 ∙ whole
+    let z : a.n - c.loop-passed._passed ≡ 0 = omega arith in
+    sym (walk_none a.dir (record_at [] a.w.now) a.n stand) ∙ ap (λ (k : ℕ). walk a.dir (record_at [] a.w.now) a.n k stand) (sym z) ∙ c.loop-passed.invariant.1 ∙ whole

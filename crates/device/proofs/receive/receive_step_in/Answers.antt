@@ -8,9 +8,9 @@ use Rattle.descriptors.specs.declared.record.TransferDirection.TheVariants.{In}
 use Rattle.descriptors.specs.Ring.{ring_of}
 use Rattle.descriptors.specs.Cells.{record_at, start_at}
 use Rattle.descriptors.specs.Record.{most}
-use Rattle.device.specs.declared.stand.Stand.TheVariants as stand
 use Rattle.device.specs.laws.Receive.{receive-refused, receive-unfit, receive_inside, receive-small, receive-done}
 use Rattle.device.specs.Device.{stand_of, fits}
+use Rattle.std.specs.Prelude.{Ok}
 use Rattle.device.proofs.receive.receive_step_in.Goals as goal
 
 pub returns-in_default : goal.returns-in_default
@@ -20,13 +20,13 @@ returns-in_default c =
 
 pub returns-then-not-step_fits : goal.returns-then-not-step_fits
 returns-then-not-step_fits c =
-    let stood : let a = c.args in stand_of In (ring_of a.s.now a.w.now a.h) (length a.buffer.now) a.device ≡ stand.On c.in-On.i = sym c.find-found.ensures ∙ c.in-On.is in
+    let stood : let a = c.args in stand_of In (ring_of a.s.now a.w.now a.h) (length a.buffer.now) a.device ≡ Ok c.in-On.i = sym c.find-found.ensures ∙ c.in-On.is in
     let a = c.args in
     receive-unfit a.s.now a.w.now a.h a.device a.buffer.now a.incoming.now a.eof _ stood (sym c.step_fits.ensures ∙ not-true _ c.if-not-step_fits.true-raw)
 
 pub place-requires : goal.place-requires
 place-requires c =
-    let stood : let a = c.args in stand_of In (ring_of a.s.now a.w.now a.h) (length a.buffer.now) a.device ≡ stand.On c.in-On.i = sym c.find-found.ensures ∙ c.in-On.is in
+    let stood : let a = c.args in stand_of In (ring_of a.s.now a.w.now a.h) (length a.buffer.now) a.device ≡ Ok c.in-On.i = sym c.find-found.ensures ∙ c.in-On.is in
     let fit : let a = c.args in fits (length a.incoming.now) (record_at a.s.now a.w.now c.in-On.i) ≡ true = sym c.step_fits.ensures ∙ not-false _ c.if-not-step_fits.false-raw in
     let inside : let a = c.args in start_at a.s.now c.in-On.i + length a.incoming.now ≤ length a.buffer.now = let a = c.args in
     receive_inside a.s.now a.w.now a.h a.device a.buffer.now a.incoming.now a.eof _ stood fit in
@@ -34,7 +34,7 @@ place-requires c =
 
 pub overflow_cast-incoming : goal.overflow_cast-incoming
 overflow_cast-incoming c =
-    let stood : let a = c.args in stand_of In (ring_of a.s.now a.w.now a.h) (length a.buffer.now) a.device ≡ stand.On c.in-On.i = sym c.find-found.ensures ∙ c.in-On.is in
+    let stood : let a = c.args in stand_of In (ring_of a.s.now a.w.now a.h) (length a.buffer.now) a.device ≡ Ok c.in-On.i = sym c.find-found.ensures ∙ c.in-On.is in
     let fit : let a = c.args in fits (length a.incoming.now) (record_at a.s.now a.w.now c.in-On.i) ≡ true = sym c.step_fits.ensures ∙ not-false _ c.if-not-step_fits.false-raw in
     let small : length c.args.incoming.now ≤ most = let a = c.args in
     receive-small a.s.now a.w.now a.h a.device a.buffer.now a.incoming.now a.eof _ stood fit in
@@ -42,7 +42,7 @@ overflow_cast-incoming c =
 
 pub returns : goal.returns
 returns c =
-    let stood : let a = c.args in stand_of In (ring_of a.s.now a.w.now a.h) (length a.buffer.now) a.device ≡ stand.On c.in-On.i = sym c.find-found.ensures ∙ c.in-On.is in
+    let stood : let a = c.args in stand_of In (ring_of a.s.now a.w.now a.h) (length a.buffer.now) a.device ≡ Ok c.in-On.i = sym c.find-found.ensures ∙ c.in-On.is in
     let fit : let a = c.args in fits (length a.incoming.now) (record_at a.s.now a.w.now c.in-On.i) ≡ true = sym c.step_fits.ensures ∙ not-false _ c.if-not-step_fits.false-raw in
     let a = c.args in
     receive-done a.s.now a.w.now a.h a.device a.buffer.now a.incoming.now a.eof _ stood fit _ _ _ _ c.next_of-next.ensures c.start_of-start.ensures c.place.ensures c.close.ensures

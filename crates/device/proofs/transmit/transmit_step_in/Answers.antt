@@ -5,9 +5,9 @@ use lib.ListN.{length}
 use Rattle.descriptors.specs.declared.record.TransferDirection.TheVariants.{Out}
 use Rattle.descriptors.specs.Ring.{ring_of}
 use Rattle.descriptors.specs.Cells.{start_at}
-use Rattle.device.specs.declared.stand.Stand.TheVariants as stand
 use Rattle.device.specs.laws.Transmit.{transmit-refused, transmit-short, transmit-inside, transmit-done}
 use Rattle.device.specs.Device.{stand_of}
+use Rattle.std.specs.Prelude.{Ok}
 use Rattle.device.proofs.transmit.transmit_step_in.Goals as goal
 
 pub returns-in_default : goal.returns-in_default
@@ -17,20 +17,20 @@ returns-in_default c =
 
 pub returns-then-out-k : goal.returns-then-out-k
 returns-then-out-k c =
-    let stood : let a = c.args in stand_of Out (ring_of a.s.now a.w.now a.h) (length a.buffer.now) a.device ≡ stand.On c.in-On.i = sym c.find-found.ensures ∙ c.in-On.is in
+    let stood : let a = c.args in stand_of Out (ring_of a.s.now a.w.now a.h) (length a.buffer.now) a.device ≡ Ok c.in-On.i = sym c.find-found.ensures ∙ c.in-On.is in
     let a = c.args in
     transmit-short a.s.now a.w.now a.h a.device a.buffer.now a.out.now _ stood _ c.length_of-k.ensures.0 c.if-out-k.true
 
 pub send-requires : goal.send-requires
 send-requires c =
-    let stood : let a = c.args in stand_of Out (ring_of a.s.now a.w.now a.h) (length a.buffer.now) a.device ≡ stand.On c.in-On.i = sym c.find-found.ensures ∙ c.in-On.is in
+    let stood : let a = c.args in stand_of Out (ring_of a.s.now a.w.now a.h) (length a.buffer.now) a.device ≡ Ok c.in-On.i = sym c.find-found.ensures ∙ c.in-On.is in
     let inside : let a = c.args in start_at a.s.now c.in-On.i + c.length_of-k.result ≤ length a.buffer.now = let a = c.args in
     transmit-inside a.s.now a.w.now a.h a.device a.buffer.now a.out.now _ stood _ c.length_of-k.ensures.0 in
     (omega (arith, c.start_of-start.ensures, inside), c.if-out-k.false)
 
 pub returns : goal.returns
 returns c =
-    let stood : let a = c.args in stand_of Out (ring_of a.s.now a.w.now a.h) (length a.buffer.now) a.device ≡ stand.On c.in-On.i = sym c.find-found.ensures ∙ c.in-On.is in
+    let stood : let a = c.args in stand_of Out (ring_of a.s.now a.w.now a.h) (length a.buffer.now) a.device ≡ Ok c.in-On.i = sym c.find-found.ensures ∙ c.in-On.is in
     let a = c.args in
     let k = c.length_of-k in
     transmit-done a.s.now a.w.now a.h a.device a.buffer.now a.out.now _ stood k.result k.ensures.0 c.if-out-k.false _ _ _ _ c.next_of-next.ensures c.start_of-start.ensures c.send.ensures c.release.ensures

@@ -4,8 +4,8 @@ use Rattle.descriptors.specs.Split.{laid}
 use Rattle.descriptors.specs.Ring.{Outcome}
 use Rattle.descriptors.specs.laws.Updates.{up_none, up_more}
 use Rattle.descriptors.specs.declared.record.DmaDescriptor.{DmaDescriptor}
-use Rattle.descriptors.specs.declared.refusal.Done.{Done}
 use Rattle.lent.proofs.Lists.{placed, ready-known, new-ready, new-refused}
+use Rattle.descriptors.specs.Refusal.{Answer}
 use Rattle.lent.proofs.list.new_over.Goals as goal
 
 pub returns-in_default : goal.returns-in_default
@@ -35,4 +35,4 @@ returns c =
     let xs = c.args.ds.now in
     let e = new-ready c.args.dir xs c.args.len (sym c.in-Ready.is ∙ c.judge_new-answer.ensures) in
     let all : c.loop-i.i ≡ length xs = omega arith in
-    (c.in-Ready.is ∙ sym (ap (λ (out : Outcome Done). out.answer) e), c.loop-i.invariant.so_far ∙ ap (placed c.args.dir c.args.len xs) all ∙ sym (ap (λ (out : Outcome Done). out.ring.descriptors) e))
+    (c.in-Ready.is ∙ sym (ap (λ (out : Outcome (Answer Unit)). out.answer) e), c.loop-i.invariant.so_far ∙ ap (placed c.args.dir c.args.len xs) all ∙ sym (ap (λ (out : Outcome (Answer Unit)). out.ring.descriptors) e))

@@ -1,13 +1,12 @@
 use Rattle.rx_stream.specs.laws.Answers.{available-refused, available-done}
 use Rattle.rx_stream.specs.laws.Takes.{unsound, known, offset-run, run-shown}
-use Rattle.descriptors.specs.declared.refusal.Counted.TheVariants.{Bytes}
 use Rattle.descriptors.specs.laws.Sound.{ready-split}
 use Rattle.descriptors.specs.Walk.{available_in, run_bytes}
 use Rattle.descriptors.specs.Ring.{ring_of, sound}
 use Rattle.descriptors.specs.Cells.{records_of}
 use Rattle.descriptors.specs.Record.{limit, record_in}
 use Rattle.descriptors.specs.declared.record.TransferDirection.TheVariants.{In}
-use Rattle.std.proofs.Common.{◌≡◌, ℕ, ◌-◌, true, sym, ap, ◌∙◌, arith, le-leb}
+use Rattle.std.proofs.Common.{◌≡◌, ℕ, ◌-◌, true, sym, ap, ◌∙◌, arith, le-leb, Ok}
 use Rattle.rx_stream.proofs.in_place.available_in.Goals as goal
 
 pub returns-in_default : goal.returns-in_default
@@ -30,4 +29,4 @@ returns c =
     let total : let a = c.args in c.run_bytes-total.result ≡ run_bytes In (record_in (records_of a.s.now a.w.now)) a.h.count a.h.count a.h.descriptor_idx = let a = c.args in
     c.run_bytes-total.ensures ∙ rw (le-leb a.h.count limit (known a.s.now a.w.now a.h a.len passed).split.parts.many) (run-shown a.s.now a.w.now a.h a.len passed) in
     let a = c.args in
-    ap (λ (k : ℕ). Bytes (k - a.h.descriptor_offset)) total ∙ sym (available-done (ring_of a.s.now a.w.now a.h) a.len passed)
+    ap (λ (k : ℕ). Ok (k - a.h.descriptor_offset)) total ∙ sym (available-done (ring_of a.s.now a.w.now a.h) a.len passed)

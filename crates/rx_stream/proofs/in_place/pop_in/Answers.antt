@@ -2,11 +2,10 @@ use Rattle.rx_stream.specs.declared.in_place.Taking.{Taking}
 use Rattle.rx_stream.specs.laws.Answers.{pop-refused, pop-idle, pop-done, popped-refused, popped-idle, popped-done}
 use Rattle.rx_stream.specs.laws.Takes.{unsound, idle-shown, taken-cells, taken-head}
 use Rattle.rx_stream.specs.Receive.{idle}
-use Rattle.descriptors.specs.declared.refusal.Counted.TheVariants.{Bytes}
 use Rattle.descriptors.specs.laws.Words.{cells_same}
 use Rattle.descriptors.specs.laws.Sound.{ready-split}
 use Rattle.descriptors.specs.Ring.{ring_of, sound}
-use Rattle.std.proofs.Common.{◌≡◌, true, false, length, sym, refl, ap, ◌∙◌}
+use Rattle.std.proofs.Common.{◌≡◌, true, false, length, sym, refl, ap, ◌∙◌, Ok}
 use Rattle.descriptors.specs.declared.record.TransferDirection.TheVariants.{In}
 use Rattle.rx_stream.proofs.in_place.pop_in.Goals as goal
 
@@ -40,5 +39,5 @@ returns c =
     rw (pop-done (ring_of a.s.now a.w.now a.h) (length a.buffer.now) (length a.dst.now) passed e, popped-done (ring_of a.s.now a.w.now a.h) a.buffer.now a.dst.now passed e) (record {
       w_after = c.take_in-m.ensures.w_after ∙ taken-cells a.s.now a.w.now a.h (length a.buffer.now) passed (length a.dst.now);
       dst_after = c.copy_run.ensures;
-      value = ap (λ (x : Taking). record { head = x.head; answer = Bytes x.taken }) (c.take_in-m.ensures.value ∙ taken-head a.s.now a.w.now a.h (length a.buffer.now) passed (length a.dst.now));
+      value = ap (λ (x : Taking). record { head = x.head; answer = Ok x.taken }) (c.take_in-m.ensures.value ∙ taken-head a.s.now a.w.now a.h (length a.buffer.now) passed (length a.dst.now));
     })

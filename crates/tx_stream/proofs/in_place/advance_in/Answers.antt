@@ -2,13 +2,13 @@ use Rattle.tx_stream.specs.Transmit.{advance_of}
 use Rattle.tx_stream.specs.laws.Accepts.{room-is, up_to}
 use Rattle.tx_stream.specs.laws.Rules.{bad-state, advance-no}
 use Rattle.descriptors.specs.laws.Words.{cells_same}
-use Rattle.descriptors.specs.declared.refusal.Counted.{Counted}
 use Rattle.descriptors.specs.declared.record.TransferDirection.TheVariants.{Out}
 use Rattle.tx_stream.specs.laws.Rules.{unsound}
 use Rattle.descriptors.specs.laws.Sound.{ready-split}
 use Rattle.descriptors.specs.Ring.{Ring, ring_of, sound}
 use Rattle.descriptors.specs.declared.ring.Head.{Head}
 use Rattle.std.proofs.Common.{◌≡◌, ℕ, true, false, List, ap, ◌∙◌}
+use Rattle.descriptors.specs.Refusal.{Answer}
 use Rattle.tx_stream.proofs.in_place.advance_in.Goals as goal
 
 pub returns-in_default : goal.returns-in_default
@@ -21,7 +21,7 @@ returns-in_default c =
     let is-unsound : sound Out ring size ≡ false = unsound _ _ _ c.judge-answer.ensures c.in_default.is in
     let count : ℕ = c.args.k in
     let e = is-unsound in
-    rw (advance-no ring size e count) (record { w_after = cells_same st ws; value = c.refused.ensures ∙ ap (λ (x : Counted). record { head = head; answer = x }) (bad-state _ _ c.judge-answer.ensures e) })
+    rw (advance-no ring size e count) (record { w_after = cells_same st ws; value = c.refused.ensures ∙ ap (λ (x : Answer ℕ). record { head = head; answer = x }) (bad-state _ _ c.judge-answer.ensures e) })
 
 pub returns : goal.returns
 unfolding advance_of

@@ -1,12 +1,11 @@
 use Rattle.tx_stream.specs.laws.Accepts.{room-is}
 use Rattle.tx_stream.specs.laws.Rules.{bad-state, available-no, available-yes}
-use Rattle.descriptors.specs.declared.refusal.Counted.TheVariants as counted
 use Rattle.descriptors.specs.declared.record.TransferDirection.TheVariants.{Out}
 use Rattle.tx_stream.specs.laws.Rules.{unsound}
 use Rattle.descriptors.specs.laws.Sound.{ready-split}
 use Rattle.descriptors.specs.Ring.{Ring, ring_of, sound}
 use Rattle.descriptors.specs.declared.ring.Head.{Head}
-use Rattle.std.proofs.Common.{◌≡◌, ℕ, true, false, List, sym, ap, ◌∙◌}
+use Rattle.std.proofs.Common.{◌≡◌, ℕ, true, false, List, sym, ap, ◌∙◌, Ok}
 use Rattle.tx_stream.proofs.in_place.available_in.Goals as goal
 
 pub returns-in_default : goal.returns-in_default
@@ -28,4 +27,4 @@ returns c =
     let size : ℕ = c.args.len in
     let ring : Ring = ring_of st ws head in
     let is-sound : sound Out ring size ≡ true = ready-split _ _ c.judge-answer.ensures c.in-Ready.is in
-    ap counted.Bytes (c.available.ensures ∙ room-is st ws head size is-sound) ∙ sym (available-yes ring size is-sound)
+    ap Ok (c.available.ensures ∙ room-is st ws head size is-sound) ∙ sym (available-yes ring size is-sound)

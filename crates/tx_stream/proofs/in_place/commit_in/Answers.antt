@@ -5,12 +5,12 @@ use Rattle.tx_stream.specs.laws.Room.{offset-fits, place_in}
 use Rattle.tx_stream.specs.laws.Accepts.{room-is, place_is, up_to}
 use Rattle.tx_stream.specs.laws.Rules.{bad-state, commit-no}
 use Rattle.descriptors.specs.laws.Words.{cells_same}
-use Rattle.descriptors.specs.declared.refusal.Counted.{Counted}
 use Rattle.descriptors.specs.declared.record.TransferDirection.TheVariants.{Out}
 use Rattle.tx_stream.specs.laws.Rules.{unsound}
 use Rattle.descriptors.specs.laws.Sound.{ready-split}
 use Rattle.descriptors.specs.Ring.{Ring, ring_of, sound}
 use Rattle.descriptors.specs.declared.ring.Head.{Head}
+use Rattle.descriptors.specs.Refusal.{Answer}
 use Rattle.tx_stream.proofs.in_place.commit_in.Goals as goal
 
 pub returns-in_default : goal.returns-in_default
@@ -23,7 +23,7 @@ returns-in_default c =
     let is-unsound : sound Out ring size ≡ false = unsound _ _ _ c.judge-answer.ensures c.in_default.is in
     let count : ℕ = c.args.k in
     let e = is-unsound in
-    rw (commit-no ring size e count) (record { w_after = cells_same st ws; value = c.refused.ensures ∙ ap (λ (x : Counted). record { head = head; answer = x }) (bad-state _ _ c.judge-answer.ensures e) })
+    rw (commit-no ring size e count) (record { w_after = cells_same st ws; value = c.refused.ensures ∙ ap (λ (x : Answer ℕ). record { head = head; answer = x }) (bad-state _ _ c.judge-answer.ensures e) })
 
 pub write_position-at-requires : goal.write_position-at-requires
 write_position-at-requires c =

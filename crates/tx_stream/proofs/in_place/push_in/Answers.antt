@@ -5,14 +5,13 @@ use Rattle.tx_stream.specs.Faces.{accepting_of, filled_cells, filled_head}
 use Rattle.tx_stream.specs.Transmit.{paste_round, write_at}
 use Rattle.descriptors.specs.laws.Words.{cells_same}
 use Rattle.descriptors.specs.Walk.{available_in}
-use Rattle.std.proofs.Common.{◌≡◌, ℕ, min, true, false, List, length, take, sym, ap, ◌∙◌, arith}
-use Rattle.descriptors.specs.declared.refusal.Counted.TheVariants as counted
-use Rattle.descriptors.specs.declared.refusal.Counted.{Counted}
+use Rattle.std.proofs.Common.{◌≡◌, ℕ, min, true, false, List, length, take, sym, ap, ◌∙◌, arith, Ok}
 use Rattle.descriptors.specs.declared.record.TransferDirection.TheVariants.{Out}
 use Rattle.tx_stream.specs.laws.Rules.{unsound}
 use Rattle.descriptors.specs.laws.Sound.{ready-split}
 use Rattle.descriptors.specs.Ring.{Ring, ring_of, sound}
 use Rattle.descriptors.specs.declared.ring.Head.{Head}
+use Rattle.descriptors.specs.Refusal.{Answer}
 use Rattle.tx_stream.proofs.in_place.push_in.Goals as goal
 
 pub returns-in_default : goal.returns-in_default
@@ -28,7 +27,7 @@ returns-in_default c =
     let e = is-unsound in
     record {
       w_after = rw (push-no ring size e (length bytes)) (cells_same st ws);
-      value = c.refused.ensures ∙ ap (λ (x : Counted). record { head = head; answer = x }) (bad-state _ _ c.judge-answer.ensures e) ∙ ap accepting_of (sym (push-no ring size e (length bytes)));
+      value = c.refused.ensures ∙ ap (λ (x : Answer ℕ). record { head = head; answer = x }) (bad-state _ _ c.judge-answer.ensures e) ∙ ap accepting_of (sym (push-no ring size e (length bytes)));
       buffer_after = sym (push-into-no ring lent bytes e);
     }
 
@@ -72,9 +71,9 @@ returns c =
     record {
       w_after = rw y (c.accept_in.ensures.0 ∙ ap (filled_cells ws head) taken ∙ filled-cells st ws head size is-sound k);
       value =
-          ap (λ (x : Head). record { head = x; answer = counted.Bytes c.least-k.result }) c.accept_in.ensures.1
-          ∙ ap (λ (k : ℕ). record { head = filled_head ws head k; answer = counted.Bytes k }) taken
-          ∙ ap (λ (x : Head). record { head = x; answer = counted.Bytes k }) (filled-head st ws head size is-sound k)
+          ap (λ (x : Head). record { head = x; answer = Ok c.least-k.result }) c.accept_in.ensures.1
+          ∙ ap (λ (k : ℕ). record { head = filled_head ws head k; answer = Ok k }) taken
+          ∙ ap (λ (x : Head). record { head = x; answer = Ok k }) (filled-head st ws head size is-sound k)
           ∙ ap accepting_of (sym y);
       buffer_after =
           c.copy_round.ensures ∙ ap (λ (p : ℕ). paste_round lent p (take c.least-k.result bytes)) place

@@ -1,13 +1,13 @@
 use Rattle.tx_stream.specs.laws.Rules.{bad-state, prefill-commit-no, prefill-commit-much, prefill-commit-yes}
 use Rattle.tx_stream.specs.Faces.{accepting_of}
 use Rattle.descriptors.specs.laws.Sound.{split-facts}
-use Rattle.descriptors.specs.declared.refusal.Counted.{Counted}
 use Rattle.std.proofs.Common.{◌≡◌, ℕ, ◌≤◌, true, false, List, sym, ap, ◌∙◌, arith, le-leb}
 use borrow.Author.Tests.{lt-leb}
 use Rattle.tx_stream.specs.laws.Rules.{unsound}
 use Rattle.descriptors.specs.laws.Sound.{ready-split}
 use Rattle.descriptors.specs.Ring.{Ring, ring_of, split_sound}
 use Rattle.descriptors.specs.declared.ring.Head.{Head}
+use Rattle.descriptors.specs.Refusal.{Answer}
 use Rattle.tx_stream.proofs.prefill.prefill_commit_in.Goals as goal
 
 pub returns-in_default : goal.returns-in_default
@@ -19,7 +19,7 @@ returns-in_default c =
     let ring : Ring = ring_of st ws head in
     let is-unsound : split_sound ring size ≡ false = unsound _ _ _ c.judge_split-answer.ensures c.in_default.is in
     let e = is-unsound in
-    (c.refused.ensures ∙ ap (λ (x : Counted). record { head = head; answer = x }) (bad-state _ _ c.judge_split-answer.ensures e) ∙ ap accepting_of (sym (prefill-commit-no ring size e c.args.k)))
+    (c.refused.ensures ∙ ap (λ (x : Answer ℕ). record { head = head; answer = x }) (bad-state _ _ c.judge_split-answer.ensures e) ∙ ap accepting_of (sym (prefill-commit-no ring size e c.args.k)))
 
 pub overflow_sub-len : goal.overflow_sub-len
 overflow_sub-len c =
