@@ -190,8 +190,8 @@ pub record Transmit (n : ℕ) (w : World) : Type 0 where
 
 -- THE DEMAND: nothing more is asked of the lent records, the buffer and n than that `new` accepted
 pub record Demand3 : Type 0 where
-  pub receive : (ds : List DmaDescriptor) (n : ℕ) (bytes : List ℕ) → (new_of In ds n (length bytes)).answer ≡ (Ok tt) → (acts : List RxAction)
+  pub receive : (ds : List DmaDescriptor) (n : ℕ) (bytes : List ℕ) → (new_of In ds n (length bytes)).answer ≡ Ok tt → (acts : List RxAction)
       → Receive n (run rx_step (prepared rx.prepare_of (built In ds n bytes)) acts)
-  pub transmit : (ds : List DmaDescriptor) (n : ℕ) (bytes : List ℕ) → (new_of Out ds n (length bytes)).answer ≡ (Ok tt) → (before : List Prefill)
+  pub transmit : (ds : List DmaDescriptor) (n : ℕ) (bytes : List ℕ) → (new_of Out ds n (length bytes)).answer ≡ Ok tt → (before : List Prefill)
       → 0 < length (run prefill (built Out ds n bytes) before).by_calls → (acts : List TxAction)
       → Transmit n (run tx_step (prepared tx.prepare_of (run prefill (built Out ds n bytes) before)) acts)

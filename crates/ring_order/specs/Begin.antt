@@ -22,7 +22,7 @@ use Rattle.ring_order.specs.Queue.{Linked}
 
 -- ---- `new`
 
-pub refused-not : (e : DmaBufError) → Err e ≡ (Ok tt) → ⊥
+pub refused-not : (e : DmaBufError) → ◌≡◌ {A = Answer Unit} (Err e) (Ok tt) → ⊥
 refused-not e q = let z : ◌≡◌ {A = ℕ} 0 1 = cc in omega arith
 
 module _ (dir : TransferDirection) (ds : List DmaDescriptor) (n len : ℕ) where
@@ -34,16 +34,16 @@ module _ (dir : TransferDirection) (ds : List DmaDescriptor) (n len : ℕ) where
     pub parts : accepted ≡ true
     pub enough : n ≤ length ds
 
-  new-some : (t : Bool) → ltb (length ds) n ≡ t → (cond t (refused (fresh ds n) (Err BadState)) ready).answer ≡ (Ok tt) → New (cond t (refused (fresh ds n) (Err BadState)) ready) true
+  new-some : (t : Bool) → ltb (length ds) n ≡ t → (cond t (refused (fresh ds n) (Err BadState)) ready).answer ≡ Ok tt → New (cond t (refused (fresh ds n) (Err BadState)) ready) true
   new-some true e h = absurd (refused-not BadState h)
   new-some false e h = record { ring = refl; parts = refl; enough = ltb-false (length ds) n e }
 
-  new_by_lem : (s : Answer Split) → (new_by dir ds n len s).answer ≡ (Ok tt) → New (new_by dir ds n len s) (is_parts s)
+  new_by_lem : (s : Answer Split) → (new_by dir ds n len s).answer ≡ Ok tt → New (new_by dir ds n len s) (is_parts s)
   new_by_lem (Ok x) h = new-some (ltb (length ds) n) refl h
   new_by_lem (Err e) h = absurd (refused-not e h)
 
   -- `new` answered Ready
-  pub new-ready : (new_of dir ds n len).answer ≡ (Ok tt) → New (new_of dir ds n len) (accepts n len)
+  pub new-ready : (new_of dir ds n len).answer ≡ Ok tt → New (new_of dir ds n len) (accepts n len)
   unfolding new_of
   new-ready h = new_by_lem (split_of n len) h
 
@@ -73,7 +73,7 @@ module _ (dir : TransferDirection) (ds : List DmaDescriptor) (n len : ℕ) where
       laid-room Out i d = refl
 
   -- the ring that `new` leaves has its split
-  pub new_split : (new_of dir ds n len).answer ≡ (Ok tt) → split_sound (new_of dir ds n len).ring len ≡ true
+  pub new_split : (new_of dir ds n len).answer ≡ Ok tt → split_sound (new_of dir ds n len).ring len ≡ true
   new_split h =
       let w = new-ready h in
       ap (λ (r : Ring). split_sound r len) w.ring ∙ of-laid (fresh (laid_out dir n len ds) n) len (laid_out_lem w.parts w.enough) (omega arith)

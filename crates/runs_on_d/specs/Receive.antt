@@ -108,7 +108,7 @@ unfolding rx_step new_of split_of start_of size_of laid_out up_to linked_all spl
 run-on-d = refl
 
 -- the demand's premise is met by this ring
-built-ready : (new_of In records 4 14).answer ≡ (Ok tt)
+built-ready : (new_of In records 4 14).answer ≡ Ok tt
 unfolding new_of split_of laid_out up_to
 built-ready = refl
 

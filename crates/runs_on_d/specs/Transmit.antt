@@ -61,7 +61,7 @@ unfolding tx_step dma_data queued_in pending_in prefill prefill_of prefill_into 
 in-the-end = (refl, refl, refl, refl, refl, refl, refl, refl, refl)
 
 -- the premises of the demand are met by this ring
-d-is-built : (new_of Out (replicate 64 lent) 4 14).answer ≡ (Ok tt)
+d-is-built : (new_of Out (replicate 64 lent) 4 14).answer ≡ Ok tt
 unfolding new_of split_of laid_out up_to
 d-is-built = refl
 

@@ -70,7 +70,7 @@ module _ (ds : List DmaDescriptor) (n : ℕ) (bytes : List ℕ) where
   abbrev world_of : Ring → World
   world_of r = world r bytes (Some 0) [] [] []
 
-  pub start-good : (new_of In ds n (length bytes)).answer ≡ (Ok tt) → (q : ℕ) × Good n (length bytes) q (prepared prepare_of (built In ds n bytes))
+  pub start-good : (new_of In ds n (length bytes)).answer ≡ Ok tt → (q : ℕ) × Good n (length bytes) q (prepared prepare_of (built In ds n bytes))
   start-good new =
       let h = new_split In ds n (length bytes) new in
       let e = prepare-ring made (length bytes) h in

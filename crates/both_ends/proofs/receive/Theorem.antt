@@ -172,7 +172,7 @@ some-records n len q w g =
     omega (arith, g.count, (ground In w.ring.count len w.ring.descriptors w.bytes w.ring.idx s).many)
 
 -- RECEIVE
-pub receive-holds : (ds : List DmaDescriptor) (n : ℕ) (bytes : List ℕ) → (new_of In ds n (length bytes)).answer ≡ (Ok tt)
+pub receive-holds : (ds : List DmaDescriptor) (n : ℕ) (bytes : List ℕ) → (new_of In ds n (length bytes)).answer ≡ Ok tt
     → (acts : List RxAction) → Receive n (run rx_step (prepared prepare_of (built In ds n bytes)) acts)
 receive-holds ds n bytes new acts =
     let len : ℕ = length bytes in

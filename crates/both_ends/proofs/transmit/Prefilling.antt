@@ -233,7 +233,7 @@ fresh-fills r ds n bytes e h =
       counts = ap (λ (x : Ring). x.tally) e;
     }
 
-filled_at : (ds : List DmaDescriptor) (n : ℕ) (bytes : List ℕ) → (new_of Out ds n (length bytes)).answer ≡ (Ok tt) → (before : List Prefill) (t : Bool) → split_sound (new_of Out ds n (length bytes)).ring (length bytes) ≡ t
+filled_at : (ds : List DmaDescriptor) (n : ℕ) (bytes : List ℕ) → (new_of Out ds n (length bytes)).answer ≡ Ok tt → (before : List Prefill) (t : Bool) → split_sound (new_of Out ds n (length bytes)).ring (length bytes) ≡ t
     → 0 < length (run prefill (built Out ds n bytes) before).by_calls → Filling n (run prefill (built Out ds n bytes) before)
 filled_at ds n bytes a before true e h =
     prefills-fill n (built Out ds n bytes) before (fresh-fills (new_of Out ds n (length bytes)).ring ds n bytes (new-ready Out ds n (length bytes) a).ring e)
@@ -241,6 +241,6 @@ filled_at ds n bytes a before false e h =
     absurd (omega (arith, ap length (barred-prefills (built Out ds n bytes) before record { closed = e; nothing = refl }).nothing))
 
 -- PREFILLED: at least one byte accepted before `prepare`
-pub built-fills : (ds : List DmaDescriptor) (n : ℕ) (bytes : List ℕ) → (new_of Out ds n (length bytes)).answer ≡ (Ok tt) → (before : List Prefill)
+pub built-fills : (ds : List DmaDescriptor) (n : ℕ) (bytes : List ℕ) → (new_of Out ds n (length bytes)).answer ≡ Ok tt → (before : List Prefill)
     → 0 < length (run prefill (built Out ds n bytes) before).by_calls → Filling n (run prefill (built Out ds n bytes) before)
 built-fills ds n bytes a before h = filled_at ds n bytes a before (split_sound (new_of Out ds n (length bytes)).ring (length bytes)) refl h

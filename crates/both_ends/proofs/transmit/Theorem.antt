@@ -109,7 +109,7 @@ module _ (n : ℕ) (hn : 0 < n) where
       }
 
 -- TRANSMIT
-pub transmit-holds : (ds : List DmaDescriptor) (n : ℕ) (bytes : List ℕ) → (new_of Out ds n (length bytes)).answer ≡ (Ok tt) → (before : List Prefill)
+pub transmit-holds : (ds : List DmaDescriptor) (n : ℕ) (bytes : List ℕ) → (new_of Out ds n (length bytes)).answer ≡ Ok tt → (before : List Prefill)
     → 0 < length (run prefill (built Out ds n bytes) before).by_calls → (acts : List TxAction)
     → Transmit n (run tx_step (prepared prepare_of (run prefill (built Out ds n bytes) before)) acts)
 transmit-holds ds n bytes new before h acts =
