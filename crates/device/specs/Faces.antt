@@ -5,19 +5,7 @@ use Rattle.descriptors.specs.Ring.{ring_of}
 use Rattle.descriptors.specs.declared.record.Owner.TheVariants.{Cpu}
 use Rattle.descriptors.specs.declared.ring.Head.{Head}
 use Rattle.device.specs.Device.{receive_of, receive_into, transmit_of, transmit_over}
-use Rattle.device.specs.declared.receive.Received.{Received}
 use Rattle.descriptors.specs.Refusal.{Answer}
-use Rattle.device.specs.declared.transmit.Sent.{Sent}
-
--- ---- the refusal of a device that is not found on a record
-
-abbrev pub stand_done : Answer ℕ → Answer Unit
-stand_done (Ok i) = Ok tt
-stand_done (Err e) = Err e
-
-abbrev pub stand_counted : Answer ℕ → Answer ℕ
-stand_counted (Ok i) = Ok 0
-stand_counted (Err e) = Err e
 
 -- ---- the receive step
 
@@ -25,16 +13,16 @@ stand_counted (Err e) = Err e
 abbrev pub close_cells : ℕ → ℕ → Bool → List ℕ → List ℕ
 close_cells i k eof ws = put_owner (put_eof (put_length ws i k) i eof) i Cpu
 
-pub record ReceivedIn (st ws : List ℕ) (h : Head) (dev : Option ℕ) (bytes bs : List ℕ) (eof : Bool) (ws' bytes' : List ℕ) (r : Received) : Type 0 where
+pub record ReceivedIn (st ws : List ℕ) (h : Head) (dev : Option ℕ) (bytes bs : List ℕ) (eof : Bool) (ws' bytes' : List ℕ) (dev' : Option ℕ) (a : Answer Unit) : Type 0 where
   pub cells : ws' ≡ cells_now st ws (receive_of (ring_of st ws h) dev (length bytes) (length bs) eof).ring.descriptors
   pub buffer : bytes' ≡ receive_into (ring_of st ws h) dev bytes bs
-  pub device : r.device ≡ (receive_of (ring_of st ws h) dev (length bytes) (length bs) eof).device
-  pub answer : r.answer ≡ (receive_of (ring_of st ws h) dev (length bytes) (length bs) eof).answer
+  pub device : dev' ≡ (receive_of (ring_of st ws h) dev (length bytes) (length bs) eof).device
+  pub answer : a ≡ (receive_of (ring_of st ws h) dev (length bytes) (length bs) eof).answer
 
 -- ---- the transmit step
 
-pub record SentIn (st ws : List ℕ) (h : Head) (dev : Option ℕ) (bytes out : List ℕ) (ws' out' : List ℕ) (r : Sent) : Type 0 where
+pub record SentIn (st ws : List ℕ) (h : Head) (dev : Option ℕ) (bytes out : List ℕ) (ws' out' : List ℕ) (dev' : Option ℕ) (a : Answer ℕ) : Type 0 where
   pub cells : ws' ≡ cells_now st ws (transmit_of (ring_of st ws h) dev (length bytes) (length out)).ring.descriptors
   pub output : out' ≡ transmit_over (ring_of st ws h) dev bytes out
-  pub device : r.device ≡ (transmit_of (ring_of st ws h) dev (length bytes) (length out)).device
-  pub answer : r.answer ≡ (transmit_of (ring_of st ws h) dev (length bytes) (length out)).answer
+  pub device : dev' ≡ (transmit_of (ring_of st ws h) dev (length bytes) (length out)).device
+  pub answer : a ≡ (transmit_of (ring_of st ws h) dev (length bytes) (length out)).answer

@@ -5,23 +5,16 @@ ghost use Rattle.device.specs.Device.{receive_of, receive_into, transmit_of, tra
 ghost use Rattle.device.specs.Values.{received_of, sent_of};
 
 use crate::{receive, transmit};
+use descriptors::refusal::DmaBufError;
 use rx_stream::view::DmaRxStreamBufView;
 use tx_stream::view::DmaTxStreamBufView;
 
-// What a receive step answers, with the ring and the device that it leaves.
-#[derive(Clone, Copy)]
-pub struct ReceivedStep {
-    pub ring: DmaRxStreamBufView,
+// What a step answers, with the ring and the device that it leaves.
+#[derive(Clone, Copy, Debug)]
+pub struct Step<R, A> {
+    pub ring: R,
     pub device: Option<u16>,
-    pub answer: Result<(), DmaBufError>,
-}
-
-// The same of a transmit step.
-#[derive(Clone, Copy)]
-pub struct SentStep {
-    pub ring: DmaTxStreamBufView,
-    pub device: Option<u16>,
-    pub answer: Result<usize, DmaBufError>,
+    pub answer: Result<A, DmaBufError>,
 }
 
 pub fn receive_step(
@@ -30,22 +23,23 @@ pub fn receive_step(
     buffer: &mut [u8],
     incoming: &[u8],
     eof: bool,
-) -> ReceivedStep
+) -> Step<DmaRxStreamBufView, ()>
     ensures value { result ≡ received_of ring (receive_of (ring_of ring.starts ring.cells ring.head) device (length buffer.old) (length incoming.now) eof) }
     ensures buffer_after { buffer.new ≡ receive_into (ring_of ring.starts ring.cells ring.head) device buffer.old incoming.now }
 {
-    let starts = ring.starts;
-    let mut cells = ring.cells;
-    let head = ring.head;
-    let r = receive::receive_step_in(&starts, &mut cells, head, device, buffer, incoming, eof);
-    let device = r.device;
-    let answer = r.answer;
-    ReceivedStep {
-        ring: DmaRxStreamBufView {
-            starts,
-            cells,
-            head,
-        },
+    let mut ring = ring;
+    let mut device = device;
+    let answer = receive::receive_step_in(
+        &ring.starts,
+        &mut ring.cells,
+        ring.head,
+        &mut device,
+        buffer,
+        incoming,
+        eof,
+    );
+    Step {
+        ring,
         device,
         answer,
     }
@@ -56,22 +50,22 @@ pub fn transmit_step(
     device: Option<u16>,
     buffer: &[u8],
     out: &mut [u8],
-) -> SentStep
+) -> Step<DmaTxStreamBufView, usize>
     ensures value { result ≡ sent_of ring (transmit_of (ring_of ring.starts ring.cells ring.head) device (length buffer.now) (length out.old)) }
     ensures out_after { out.new ≡ transmit_over (ring_of ring.starts ring.cells ring.head) device buffer.now out.old }
 {
-    let starts = ring.starts;
-    let mut cells = ring.cells;
-    let head = ring.head;
-    let r = transmit::transmit_step_in(&starts, &mut cells, head, device, buffer, out);
-    let device = r.device;
-    let answer = r.answer;
-    SentStep {
-        ring: DmaTxStreamBufView {
-            starts,
-            cells,
-            head,
-        },
+    let mut ring = ring;
+    let mut device = device;
+    let answer = transmit::transmit_step_in(
+        &ring.starts,
+        &mut ring.cells,
+        ring.head,
+        &mut device,
+        buffer,
+        out,
+    );
+    Step {
+        ring,
         device,
         answer,
     }

@@ -3,29 +3,13 @@ ghost use Rattle.std.specs.Prelude.{◌≡◌, [], ◌+◌, ◌≤◌, length};
 ghost use Rattle.std.proofs.Math.Seq.{paste};
 ghost use Rattle.descriptors.specs.Cells.{record_at};
 ghost use Rattle.device.specs.Device.{fits};
-ghost use Rattle.device.specs.Faces.{stand_done, close_cells, ReceivedIn};
+ghost use Rattle.device.specs.Faces.{close_cells, ReceivedIn};
 
 use crate::stand;
 use descriptors::cells;
 use descriptors::record::{Owner, TransferDirection};
 use descriptors::refusal::DmaBufError;
 use descriptors::ring::Head;
-
-// What a step answers, and where the device then stands.
-#[derive(Clone, Copy)]
-pub struct Received {
-    pub device: Option<u16>,
-    pub answer: Result<(), DmaBufError>,
-}
-
-fn refused(found: Result<usize, DmaBufError>) -> Result<(), DmaBufError>
-    ensures { result ≡ stand_done found }
-{
-    match found {
-        Ok(_) => Ok(()),
-        Err(e) => Err(e),
-    }
-}
 
 // A step fills 1 to size bytes.
 fn step_fits(w: &[u16], i: usize, k: usize) -> bool
@@ -60,32 +44,20 @@ pub fn receive_step_in(
     s: &[u32],
     w: &mut [u16],
     h: Head,
-    device: Option<u16>,
+    device: &mut Option<u16>,
     buffer: &mut [u8],
     incoming: &[u8],
     eof: bool,
-) -> Received
-    ensures { ReceivedIn s.now w.old h device buffer.old incoming.now eof w.new buffer.new result }
+) -> Result<(), DmaBufError>
+    ensures { ReceivedIn s.now w.old h device.old buffer.old incoming.now eof w.new buffer.new device.new result }
 {
-    let found = stand::find(TransferDirection::In, s, w, h, buffer.len(), device);
-    let Ok(i) = found else {
-        return Received {
-            device,
-            answer: refused(found),
-        };
-    };
+    let i = stand::find(TransferDirection::In, s, w, h, buffer.len(), *device)?;
     if !step_fits(w, i, incoming.len()) {
-        return Received {
-            device,
-            answer: Err(DmaBufError::BadStep),
-        };
+        return Err(DmaBufError::BadStep);
     }
-    let next = cells::next_of(w, i);
+    *device = cells::next_of(w, i);
     let start = cells::start_of(s, i) as usize;
     place(buffer, start, incoming);
     close(w, i, incoming.len() as u16, eof);
-    Received {
-        device: next,
-        answer: Ok(()),
-    }
+    Ok(())
 }

@@ -1,5 +1,5 @@
 // Where a step finds the device: on a record of a sound ring, or refused.
-ghost use Rattle.std.specs.Prelude.{◌≡◌};
+ghost use Rattle.std.specs.Prelude.{◌≡◌, Some};
 ghost use Rattle.descriptors.specs.Ring.{ring_of};
 ghost use Rattle.device.specs.Device.{stand_of, stands_on};
 
@@ -16,7 +16,7 @@ pub enum Stand {
 
 // "starting at record 0"
 pub fn start() -> Option<u16>
-    ensures { result ≡ Next.At 0 }
+    ensures { result ≡ Some 0 }
 {
     Some(0)
 }
@@ -32,25 +32,19 @@ pub fn find<'a>(
 ) -> Result<usize, DmaBufError>
     ensures { result ≡ stand_of dir (ring_of s.now w.now h) len device }
 {
-    let answer = ring::judge(dir, s, w, h, len);
-    let Ok(()) = answer else {
-        return Err(DmaBufError::BadState);
-    };
+    ring::judge(dir, s, w, h, len)?;
     on_record(h.count, device)
 }
 
 fn on_record(n: usize, device: Option<u16>) -> Result<usize, DmaBufError>
     ensures { result ≡ stands_on n device }
 {
-    match device {
-        None => Err(DmaBufError::Stopped),
-        Some(i) => {
-            let at = i as usize;
-            if at < n {
-                Ok(at)
-            } else {
-                Err(DmaBufError::BadState)
-            }
-        }
+    let Some(i) = device else {
+        return Err(DmaBufError::Stopped);
+    };
+    let at = i as usize;
+    if n <= at {
+        return Err(DmaBufError::BadState);
     }
+    Ok(at)
 }

@@ -1,29 +1,13 @@
 // The transmit step: the device sends the record that it stands on, and moves on.
 ghost use Rattle.std.specs.Prelude.{◌≡◌, ◌++◌, ◌+◌, ◌≤◌, length, take, drop};
 ghost use Rattle.descriptors.specs.Cells.{put_owner};
-ghost use Rattle.device.specs.Faces.{stand_counted, SentIn};
+ghost use Rattle.device.specs.Faces.{SentIn};
 
 use crate::stand;
 use descriptors::cells;
 use descriptors::record::{Owner, TransferDirection};
 use descriptors::refusal::DmaBufError;
 use descriptors::ring::Head;
-
-// What a step answers, the number of bytes that it sent, and where the device then stands.
-#[derive(Clone, Copy)]
-pub struct Sent {
-    pub device: Option<u16>,
-    pub answer: Result<usize, DmaBufError>,
-}
-
-fn refused(found: Result<usize, DmaBufError>) -> Result<usize, DmaBufError>
-    ensures { result ≡ stand_counted found }
-{
-    match found {
-        Ok(_) => Ok(0),
-        Err(e) => Err(e),
-    }
-}
 
 // Record i is sent: the CPU's from now on, its length and its mark as they were.
 fn release(w: &mut [u16], i: usize)
@@ -47,32 +31,20 @@ pub fn transmit_step_in(
     s: &[u32],
     w: &mut [u16],
     h: Head,
-    device: Option<u16>,
+    device: &mut Option<u16>,
     buffer: &[u8],
     out: &mut [u8],
-) -> Sent
-    ensures { SentIn s.now w.old h device buffer.now out.old w.new out.new result }
+) -> Result<usize, DmaBufError>
+    ensures { SentIn s.now w.old h device.old buffer.now out.old w.new out.new device.new result }
 {
-    let found = stand::find(TransferDirection::Out, s, w, h, buffer.len(), device);
-    let Ok(i) = found else {
-        return Sent {
-            device,
-            answer: refused(found),
-        };
-    };
+    let i = stand::find(TransferDirection::Out, s, w, h, buffer.len(), *device)?;
     let k = cells::length_of(w, i);
     if out.len() < k {
-        return Sent {
-            device,
-            answer: Err(DmaBufError::BadState),
-        };
+        return Err(DmaBufError::BadState);
     }
-    let next = cells::next_of(w, i);
+    *device = cells::next_of(w, i);
     let start = cells::start_of(s, i) as usize;
     send(buffer, start, k, out);
     release(w, i);
-    Sent {
-        device: next,
-        answer: Ok(k),
-    }
+    Ok(k)
 }

@@ -12,7 +12,7 @@ use Rattle.descriptors.specs.laws.Lifts.{Lifts, length-lifts, eof-lifts, owner-l
 use Rattle.descriptors.specs.laws.Stores.{lifts-more}
 use Rattle.descriptors.specs.laws.Words.{cells_are, cells_same}
 use Rattle.device.specs.Device.{Stepped, stand_of, fits, receive_by, receive_of, receive_into_by, receive_into}
-use Rattle.device.specs.Faces.{stand_done, close_cells, ReceivedIn}
+use Rattle.device.specs.Faces.{close_cells, ReceivedIn}
 use Rattle.device.specs.laws.Steps.{found, part-fits, part_small, words-held, seen}
 use Rattle.descriptors.specs.declared.record.Owner.TheVariants.{Cpu}
 use Rattle.descriptors.specs.declared.record.DmaDescriptor.{DmaDescriptor}
@@ -21,7 +21,6 @@ use Rattle.descriptors.specs.declared.refusal.DmaBufError.{DmaBufError}
 use Rattle.descriptors.specs.declared.refusal.DmaBufError.TheVariants.{BadStep}
 use Rattle.descriptors.specs.declared.ring.Head.{Head}
 use Rattle.descriptors.specs.Refusal.{Answer}
-use Rattle.device.specs.declared.receive.Received.{Received}
 
 -- a record closed, by its three stores
 pub close-stores : (i k : ℕ) (eof : Bool) (ws a b c : List ℕ) → a ≡ put_length ws i k → b ≡ put_eof a i eof → c ≡ put_owner b i Cpu → c ≡ close_cells i k eof ws
@@ -34,9 +33,9 @@ close-lifts st i k eof =
 
 module _ (st ws : List ℕ) (h : Head) (dev : Option ℕ) (bytes bs : List ℕ) (eof : Bool) where
   -- an outcome that leaves the words and the bytes as they are
-  kept : (r : Received) (o : Stepped (Answer Unit)) → receive_of (ring_of st ws h) dev (length bytes) (length bs) eof ≡ o → o.ring.descriptors ≡ records_of st ws
-      → receive_into (ring_of st ws h) dev bytes bs ≡ bytes → r.device ≡ o.device → r.answer ≡ o.answer → ReceivedIn st ws h dev bytes bs eof ws bytes r
-  kept r o e d b x a =
+  kept : (dev' : Option ℕ) (an : Answer Unit) (o : Stepped (Answer Unit)) → receive_of (ring_of st ws h) dev (length bytes) (length bs) eof ≡ o → o.ring.descriptors ≡ records_of st ws
+      → receive_into (ring_of st ws h) dev bytes bs ≡ bytes → dev' ≡ o.device → an ≡ o.answer → ReceivedIn st ws h dev bytes bs eof ws bytes dev' an
+  kept dev' an o e d b x a =
       record {
         cells = rw (e, d) (cells_same st ws);
         buffer = sym b;
@@ -44,23 +43,23 @@ module _ (st ws : List ℕ) (h : Head) (dev : Option ℕ) (bytes bs : List ℕ) 
         answer = rw e a;
       }
 
-  pub receive-refused : (x : Answer ℕ) (e : DmaBufError) (a : Answer Unit) → x ≡ stand_of In (ring_of st ws h) (length bytes) dev → x ≡ Err e → a ≡ stand_done x
-      → ReceivedIn st ws h dev bytes bs eof ws bytes (record { device = dev; answer = a })
+  pub receive-refused : (x : Answer ℕ) (e : DmaBufError) → x ≡ stand_of In (ring_of st ws h) (length bytes) dev → x ≡ Err e
+      → ReceivedIn st ws h dev bytes bs eof ws bytes dev (Err e)
   unfolding receive_of receive_into
-  receive-refused x e a ex p q =
+  receive-refused x e ex p =
       let s : stand_of In (ring_of st ws h) (length bytes) dev ≡ Err e = sym ex ∙ p in
-      kept (record { device = dev; answer = a }) (record { ring = ring_of st ws h; device = dev; answer = Err e })
-      (ap (receive_by (ring_of st ws h) dev (length bs) eof) s) refl (ap (receive_into_by (ring_of st ws h) bytes bs) s) refl (q ∙ ap stand_done p)
+      kept dev (Err e) (record { ring = ring_of st ws h; device = dev; answer = Err e })
+      (ap (receive_by (ring_of st ws h) dev (length bs) eof) s) refl (ap (receive_into_by (ring_of st ws h) bytes bs) s) refl refl
 
   module _ (i : ℕ) (p : stand_of In (ring_of st ws h) (length bytes) dev ≡ Ok i) where
     shown : record_of (ring_of st ws h) i ≡ record_at st ws i
     shown = seen In st ws h (length bytes) dev i p
 
-    pub receive-unfit : fits (length bs) (record_at st ws i) ≡ false → ReceivedIn st ws h dev bytes bs eof ws bytes (record { device = dev; answer = Err BadStep })
+    pub receive-unfit : fits (length bs) (record_at st ws i) ≡ false → ReceivedIn st ws h dev bytes bs eof ws bytes dev (Err BadStep)
     unfolding receive_of receive_into
     receive-unfit f =
         let x : fits (length bs) (record_of (ring_of st ws h) i) ≡ false = ap (fits (length bs)) shown ∙ f in
-        kept (record { device = dev; answer = Err BadStep }) (record { ring = ring_of st ws h; device = dev; answer = Err BadStep })
+        kept dev (Err BadStep) (record { ring = ring_of st ws h; device = dev; answer = Err BadStep })
         (ap (receive_by (ring_of st ws h) dev (length bs) eof) p ∙ rw x) refl (ap (receive_into_by (ring_of st ws h) bytes bs) p ∙ rw x) refl refl
 
     module _ (f : fits (length bs) (record_at st ws i) ≡ true) where
@@ -75,7 +74,7 @@ module _ (st ws : List ℕ) (h : Head) (dev : Option ℕ) (bytes bs : List ℕ) 
       receive-small = omega (arith, fits-size, rw shown at (part_small In (ring_of st ws h) (length bytes) dev i (found In (ring_of st ws h) (length bytes) dev i p)))
 
       pub receive-done : (x : Option ℕ) (at : ℕ) (ws' bytes' : List ℕ) → x ≡ next_of (cell 2 ws i) → at ≡ start_at st i → bytes' ≡ paste bytes at bs (length bs) → ws' ≡ close_cells i (length bs) eof ws
-          → ReceivedIn st ws h dev bytes bs eof ws' bytes' (record { device = x; answer = Ok tt })
+          → ReceivedIn st ws h dev bytes bs eof ws' bytes' x (Ok tt)
       unfolding receive_of receive_into
       receive-done x at ws' bytes' ex ea eb ew =
           let r : Ring = ring_of st ws h in

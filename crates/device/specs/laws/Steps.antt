@@ -1,6 +1,6 @@
 -- Where a step finds the device, and what is then known of its record.
 use Rattle.std.specs.Prelude.{ℕ, ◌+◌, ◌≤◌, ◌<◌, ◌≡◌, refl, Bool, true, false, cond, List, ltb, Ok, Err, Some, None, Option}
-use Rattle.std.proofs.Common.{sym, ◌∙◌, ltb-true}
+use Rattle.std.proofs.Common.{sym, ◌∙◌, ap, ltb-true}
 use Rattle.descriptors.specs.Record.{most}
 use Rattle.descriptors.specs.Cells.{are_records, record_at}
 use Rattle.descriptors.specs.Ring.{Ring, ring_of, record_of, sound, judged}
@@ -16,17 +16,26 @@ use Rattle.descriptors.specs.Refusal.{Answer}
 use Rattle.descriptors.specs.declared.ring.Head.{Head}
 
 -- what the judge's answer tells
-pub stand-judged : (dir : TransferDirection) (r : Ring) (len : ℕ) (dev : Option ℕ) (d : Answer Unit) (x : Answer ℕ) → d ≡ judged (sound dir r len) → d ≡ (Ok tt) → x ≡ stands_on r.count dev
+pub stand-judged : (dir : TransferDirection) (r : Ring) (len : ℕ) (dev : Option ℕ) (d : Answer Unit) (u : Unit) (x : Answer ℕ) → d ≡ judged (sound dir r len) → d ≡ Ok u → x ≡ stands_on r.count dev
     → x ≡ stand_of dir r len dev
-stand-judged dir r len dev d x p q e = let s : sound dir r len ≡ true = ready-split (sound dir r len) d p q in rw s e
+stand-judged dir r len dev d u x p q e = let s : sound dir r len ≡ true = ready-split (sound dir r len) d u p q in rw s e
 
 refused-judged : (b : Bool) (d : Answer Unit) (e : DmaBufError) → d ≡ judged b → d ≡ Err e → b ≡ false
 refused-judged true d e p q = not-both (let z : judged true ≡ Err e = sym p ∙ q in cc)
 refused-judged false d e p q = refl
 
+-- the refusal of an answer
+error_in : Answer Unit → DmaBufError
+error_in (Ok u) = BadState
+error_in (Err e) = e
+
 pub stand-refused : (dir : TransferDirection) (r : Ring) (len : ℕ) (dev : Option ℕ) (d : Answer Unit) (e : DmaBufError) → d ≡ judged (sound dir r len) → d ≡ Err e
-    → Err BadState ≡ stand_of dir r len dev
-stand-refused dir r len dev d e p q = let s : sound dir r len ≡ false = refused-judged (sound dir r len) d e p q in rw s
+    → ◌≡◌ {A = Answer ℕ} (Err e) (stand_of dir r len dev)
+unfolding error_in
+stand-refused dir r len dev d e p q =
+    let s : sound dir r len ≡ false = refused-judged (sound dir r len) d e p q in
+    let z : e ≡ BadState = ap error_in (sym q ∙ p ∙ ap judged s) in
+    rw (s, z) refl
 
 -- a device that was found on record i stands there, and the ring is sound
 pub record Found (dir : TransferDirection) (r : Ring) (len : ℕ) (dev : Option ℕ) (i : ℕ) : Type 0 where

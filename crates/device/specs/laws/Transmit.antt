@@ -12,7 +12,7 @@ use Rattle.descriptors.specs.laws.Lifts.{owner-lifts}
 use Rattle.descriptors.specs.laws.Sound.{facts}
 use Rattle.descriptors.specs.laws.Words.{cells_are, cells_same}
 use Rattle.device.specs.Device.{Stepped, stand_of, transmit_by, transmit_of, transmit_over_by, transmit_over}
-use Rattle.device.specs.Faces.{stand_counted, SentIn}
+use Rattle.device.specs.Faces.{SentIn}
 use Rattle.device.specs.laws.Steps.{found, part-fits, words-held, seen}
 use Rattle.descriptors.specs.declared.record.Owner.TheVariants.{Cpu}
 use Rattle.descriptors.specs.declared.record.DmaDescriptor.{DmaDescriptor}
@@ -21,13 +21,12 @@ use Rattle.descriptors.specs.declared.refusal.DmaBufError.{DmaBufError}
 use Rattle.descriptors.specs.declared.refusal.DmaBufError.TheVariants.{BadState}
 use Rattle.descriptors.specs.declared.ring.Head.{Head}
 use Rattle.descriptors.specs.Refusal.{Answer}
-use Rattle.device.specs.declared.transmit.Sent.{Sent}
 
 module _ (st ws : List ℕ) (h : Head) (dev : Option ℕ) (bytes out : List ℕ) where
   -- an outcome that leaves the words and the output as they are
-  kept : (r : Sent) (o : Stepped (Answer ℕ)) → transmit_of (ring_of st ws h) dev (length bytes) (length out) ≡ o → o.ring.descriptors ≡ records_of st ws
-      → transmit_over (ring_of st ws h) dev bytes out ≡ out → r.device ≡ o.device → r.answer ≡ o.answer → SentIn st ws h dev bytes out ws out r
-  kept r o e d b x a =
+  kept : (dev' : Option ℕ) (an : Answer ℕ) (o : Stepped (Answer ℕ)) → transmit_of (ring_of st ws h) dev (length bytes) (length out) ≡ o → o.ring.descriptors ≡ records_of st ws
+      → transmit_over (ring_of st ws h) dev bytes out ≡ out → dev' ≡ o.device → an ≡ o.answer → SentIn st ws h dev bytes out ws out dev' an
+  kept dev' an o e d b x a =
       record {
         cells = rw (e, d) (cells_same st ws);
         output = sym b;
@@ -35,13 +34,13 @@ module _ (st ws : List ℕ) (h : Head) (dev : Option ℕ) (bytes out : List ℕ)
         answer = rw e a;
       }
 
-  pub transmit-refused : (x : Answer ℕ) (e : DmaBufError) (a : Answer ℕ) → x ≡ stand_of Out (ring_of st ws h) (length bytes) dev → x ≡ Err e → a ≡ stand_counted x
-      → SentIn st ws h dev bytes out ws out (record { device = dev; answer = a })
+  pub transmit-refused : (x : Answer ℕ) (e : DmaBufError) → x ≡ stand_of Out (ring_of st ws h) (length bytes) dev → x ≡ Err e
+      → SentIn st ws h dev bytes out ws out dev (Err e)
   unfolding transmit_of transmit_over
-  transmit-refused x e a ex p q =
+  transmit-refused x e ex p =
       let s : stand_of Out (ring_of st ws h) (length bytes) dev ≡ Err e = sym ex ∙ p in
-      kept (record { device = dev; answer = a }) (record { ring = ring_of st ws h; device = dev; answer = Err e })
-      (ap (transmit_by (ring_of st ws h) dev (length out)) s) refl (ap (transmit_over_by (ring_of st ws h) bytes out) s) refl (q ∙ ap stand_counted p)
+      kept dev (Err e) (record { ring = ring_of st ws h; device = dev; answer = Err e })
+      (ap (transmit_by (ring_of st ws h) dev (length out)) s) refl (ap (transmit_over_by (ring_of st ws h) bytes out) s) refl refl
 
   module _ (i : ℕ) (p : stand_of Out (ring_of st ws h) (length bytes) dev ≡ Ok i) (k : ℕ) (ek : k ≡ cell 1 ws i) where
     shown : record_of (ring_of st ws h) i ≡ record_at st ws i
@@ -57,15 +56,15 @@ module _ (st ws : List ℕ) (h : Head) (dev : Option ℕ) (bytes out : List ℕ)
         let g = (facts Out (ring_of st ws h) (length bytes) f.sound-is).fits i f.below in
         omega (arith, ek, rw shown at g, rw shown at (part-fits Out (ring_of st ws h) (length bytes) dev i f))
 
-    pub transmit-short : length out < k → SentIn st ws h dev bytes out ws out (record { device = dev; answer = Err BadState })
+    pub transmit-short : length out < k → SentIn st ws h dev bytes out ws out dev (Err BadState)
     unfolding transmit_of transmit_over
     transmit-short l =
         let x : leb (record_of (ring_of st ws h) i).length (length out) ≡ false = rw stands (lt-leb k (length out) l) in
-        kept (record { device = dev; answer = Err BadState }) (record { ring = ring_of st ws h; device = dev; answer = Err BadState })
+        kept dev (Err BadState) (record { ring = ring_of st ws h; device = dev; answer = Err BadState })
         (ap (transmit_by (ring_of st ws h) dev (length out)) p ∙ rw x) refl (ap (transmit_over_by (ring_of st ws h) bytes out) p ∙ rw x) refl refl
 
     pub transmit-done : k ≤ length out → (x : Option ℕ) (at : ℕ) (ws' out' : List ℕ) → x ≡ next_of (cell 2 ws i) → at ≡ start_at st i → out' ≡ take k (drop at bytes) ++ drop k out → ws' ≡ put_owner ws i Cpu
-        → SentIn st ws h dev bytes out ws' out' (record { device = x; answer = Ok k })
+        → SentIn st ws h dev bytes out ws' out' x (Ok k)
     unfolding transmit_of transmit_over
     transmit-done l x at ws' out' ex ea eo ew =
         let r : Ring = ring_of st ws h in

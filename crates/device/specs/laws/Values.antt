@@ -8,9 +8,7 @@ use Rattle.descriptors.specs.declared.ring.Head.{Head}
 use Rattle.device.specs.Device.{Stepped, stand_of, fits, receive_by, receive_of, transmit_by, transmit_of}
 use Rattle.device.specs.Faces.{ReceivedIn, SentIn}
 use Rattle.device.specs.Values.{received_of, sent_of}
-use Rattle.device.specs.declared.receive.Received.{Received}
 use Rattle.descriptors.specs.Refusal.{Answer}
-use Rattle.device.specs.declared.transmit.Sent.{Sent}
 
 -- a step leaves count, cursor, tally and prefilled count as they are
 either : {A : Type 0} (h : Head) (b : Bool) (x y : Stepped A) → head_of x.ring ≡ h → head_of y.ring ≡ h → head_of (cond b x y).ring ≡ h
@@ -33,15 +31,15 @@ transmit-head r dev len room = go (stand_of Out r len dev)
     go (Err e) = refl
     go (Ok i) = either (head_of r) (leb (record_of r i).length room) _ _ refl refl
 
-pub received-value : (v : DmaRxStreamBufView) (dev : Option ℕ) (bytes bs : List ℕ) (eof : Bool) (ws' bytes' : List ℕ) (r : Received)
-    → ReceivedIn v.starts v.cells v.head dev bytes bs eof ws' bytes' r
-    → record { ring = record { starts = v.starts; cells = ws'; head = v.head }; device = r.device; answer = r.answer }
+pub received-value : (v : DmaRxStreamBufView) (dev : Option ℕ) (bytes bs : List ℕ) (eof : Bool) (ws' bytes' : List ℕ) (dev' : Option ℕ) (an : Answer Unit)
+    → ReceivedIn v.starts v.cells v.head dev bytes bs eof ws' bytes' dev' an
+    → record { ring = record { starts = v.starts; cells = ws'; head = v.head }; device = dev'; answer = an }
     ≡ received_of v (receive_of (ring_of v.starts v.cells v.head) dev (length bytes) (length bs) eof)
-received-value v dev bytes bs eof ws' bytes' r p =
+received-value v dev bytes bs eof ws' bytes' dev' an p =
     rw (p.cells, p.device, p.answer, receive-head (ring_of v.starts v.cells v.head) dev (length bytes) (length bs) eof)
 
-pub sent-value : (v : DmaTxStreamBufView) (dev : Option ℕ) (bytes out ws' out' : List ℕ) (r : Sent) → SentIn v.starts v.cells v.head dev bytes out ws' out' r
-    → record { ring = record { starts = v.starts; cells = ws'; head = v.head }; device = r.device; answer = r.answer }
+pub sent-value : (v : DmaTxStreamBufView) (dev : Option ℕ) (bytes out ws' out' : List ℕ) (dev' : Option ℕ) (an : Answer ℕ) → SentIn v.starts v.cells v.head dev bytes out ws' out' dev' an
+    → record { ring = record { starts = v.starts; cells = ws'; head = v.head }; device = dev'; answer = an }
     ≡ sent_of v (transmit_of (ring_of v.starts v.cells v.head) dev (length bytes) (length out))
-sent-value v dev bytes out ws' out' r p =
+sent-value v dev bytes out ws' out' dev' an p =
     rw (p.cells, p.device, p.answer, transmit-head (ring_of v.starts v.cells v.head) dev (length bytes) (length out))
