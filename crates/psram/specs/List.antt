@@ -9,7 +9,7 @@ use Rattle.psram.specs.declared.chip.Chip.{Chip}
 use Rattle.psram.specs.declared.plan.Plan.{Plan}
 use Rattle.psram.specs.declared.held.Held.{Held}
 use Rattle.psram.specs.declared.held.DescriptorSet.{DescriptorSet}
-use Rattle.psram.specs.declared.held.Built.{Built}
+use Rattle.descriptors.specs.declared.ring.Kept.{Kept}
 use Rattle.descriptors.specs.Refusal.{Answer}
 use Rattle.psram.specs.declared.held.Listed.{Listed}
 
@@ -52,11 +52,11 @@ abbrev pub Leaves : List ℕ → List ℕ → List ℕ → List ℕ → Answer L
 Leaves st ws st' ws' r l = (r ≡ l.answer) × ((st' ≡ starts_now st ws l.descriptors) × (ws' ≡ cells_now st ws l.descriptors))
 
 -- the same over records by value
-unfoldable pub built_of : DescriptorSet → ℕ → ℕ → Chip → ℕ → Built
+unfoldable pub built_of : DescriptorSet → ℕ → ℕ → Chip → ℕ → Kept DescriptorSet Listed
 built_of d address len chip store =
     let l = list_of (records_of d.starts d.cells) d.count address len chip store in
     record {
-      descriptors =
+      ring =
           record {
             starts = starts_now d.starts d.cells l.descriptors;
             cells = cells_now d.starts d.cells l.descriptors;

@@ -32,24 +32,30 @@ directs middle = (middle + (piece - 1)) / piece
 unfoldable pub pieces_of : Plan → ℕ
 pieces_of p = some p.head + directs p.middle + some p.tail
 
-abbrev pub direct_of : Plan → ℕ → Answer Held
-direct_of p j = Ok (InRange (p.head + piece * j) (min piece (p.middle - piece * j)))
+abbrev pub direct_of : Plan → ℕ → Held
+direct_of p j = InRange (p.head + piece * j) (min piece (p.middle - piece * j))
 
 -- piece i. "Bounce store: head at 0, tail at the bounce size."
 unfoldable pub piece_of : Plan → ℕ → Answer Held
 piece_of p i =
     cond (ltb i (some p.head)) (Ok (InStore 0 p.head))
-    (cond (ltb (i - some p.head) (directs p.middle)) (direct_of p (i - some p.head))
+    (cond (ltb (i - some p.head) (directs p.middle)) (Ok (direct_of p (i - some p.head)))
     (cond (ltb (i - some p.head - directs p.middle) (some p.tail)) (Ok (InStore p.bounce p.tail)) (Err TooMuch)))
 
+abbrev pub start_of : Held → ℕ
+start_of (InStore start size) = start
+start_of (InRange start size) = start
+
+abbrev pub size_of : Held → ℕ
+size_of (InStore start size) = size
+size_of (InRange start size) = size
+
 abbrev pub start_in : Answer Held → ℕ
-start_in (Ok (InStore start size)) = start
-start_in (Ok (InRange start size)) = start
+start_in (Ok h) = start_of h
 start_in (Err e) = 0
 
 abbrev pub size_in : Answer Held → ℕ
-size_in (Ok (InStore start size)) = size
-size_in (Ok (InRange start size)) = size
+size_in (Ok h) = size_of h
 size_in (Err e) = 0
 
 -- "0 to 64 records; more is 4, then 5, then 9 for a range past 2^32"; 5 is given for a "bounce store under twice the bounce size",
@@ -83,6 +89,5 @@ place_of store range (Ok (InRange start size)) = part_from range start
 place_of store range (Err e) = part_from store 0
 
 abbrev pub piece_refusal_of : Answer Held → Answer Unit
-piece_refusal_of (Ok (InStore start size)) = Ok tt
-piece_refusal_of (Ok (InRange start size)) = Ok tt
+piece_refusal_of (Ok h) = Ok tt
 piece_refusal_of (Err e) = Err e

@@ -8,28 +8,30 @@ pub const LINE: usize = 16;
 // The most bytes of a piece.
 pub const PIECE: usize = 4080;
 
-#[derive(Clone, Copy)]
+#[derive(Clone, Copy, Debug, PartialEq, Eq)]
 pub enum Chip {
     Ordinary,
     S2,
 }
 
-// The fewest bytes that the device moves at either end of a range: MIN_LAST_DMA_LEN in the Rust.
-pub fn least(chip: Chip) -> usize
-    ensures { result ≡ least_of chip }
-{
-    match chip {
-        Chip::Ordinary => 1,
-        Chip::S2 => 5,
+impl Chip {
+    // The fewest bytes that the device moves at either end of a range: MIN_LAST_DMA_LEN in the Rust.
+    pub fn least(self) -> usize
+        ensures { result ≡ least_of self }
+    {
+        match self {
+            Chip::Ordinary => 1,
+            Chip::S2 => 5,
+        }
     }
-}
 
-// The bytes of each half of the bounce store: BUF_LEN in the Rust.
-pub fn bounce(chip: Chip) -> usize
-    ensures { result ≡ bounce_of chip }
-{
-    match chip {
-        Chip::Ordinary => 16,
-        Chip::S2 => 24,
+    // The bytes of each half of the bounce store: BUF_LEN in the Rust.
+    pub fn bounce(self) -> usize
+        ensures { result ≡ bounce_of self }
+    {
+        match self {
+            Chip::Ordinary => 16,
+            Chip::S2 => 24,
+        }
     }
 }

@@ -3,7 +3,7 @@ ghost use Rattle.std.specs.Prelude.{◌≡◌, ◌+◌, ◌<◌, ltb};
 ghost use Rattle.descriptors.specs.Record.{top};
 ghost use Rattle.psram.specs.Cut.{line, Sides, grown, head_of, plan_of, plan_for, cut_of};
 
-use crate::chip::{Chip, LINE, bounce, least};
+use crate::chip::{Chip, LINE};
 use crate::plan::{Cut, Plan};
 use descriptors::record::TOP;
 use descriptors::refusal::DmaBufError;
@@ -59,7 +59,7 @@ fn planned(address: u32, length: usize, least: usize, bounce: usize) -> Plan
 pub(crate) fn plan(address: u32, length: usize, chip: Chip) -> Plan
     ensures { result ≡ plan_for chip address length }
 {
-    planned(address, length, least(chip), bounce(chip))
+    planned(address, length, chip.least(), chip.bounce())
 }
 
 pub fn cut(address: u32, length: u32, chip: Chip) -> Result<Cut, DmaBufError>

@@ -3,7 +3,7 @@ ghost use Rattle.std.specs.Prelude.{◌≡◌, ◌<◌, ◌≤◌, length};
 ghost use Rattle.descriptors.specs.Record.{top};
 ghost use Rattle.psram.specs.Piece.{some, directs, bytes_of, pieces_of, piece_of, direct_of, ready_of, numbered_of, shown_of, place_of, piece_refusal_of};
 
-use crate::chip::{Chip, PIECE, bounce};
+use crate::chip::{Chip, PIECE};
 use crate::cut::{is_past, plan};
 use crate::held::Held;
 use crate::plan::Plan;
@@ -14,7 +14,7 @@ use descriptors::refusal::DmaBufError;
 fn some(size: usize) -> usize
     ensures { result ≡ some size }
 {
-    if size == 0 { 0 } else { 1 }
+    usize::from(size != 0)
 }
 
 fn directs(middle: usize) -> usize
@@ -32,17 +32,15 @@ pub(crate) fn pieces(p: Plan) -> usize
 }
 
 // Direct piece j.
-fn direct(p: Plan, j: usize) -> Result<Held, DmaBufError>
+fn direct(p: Plan, j: usize) -> Held
     requires { (bytes_of p ≤ top) × (j < directs p.middle) }
     ensures { result ≡ direct_of p j }
 {
     let from = PIECE * j;
-    let start = p.head + from;
-    let left = p.middle - from;
-    if left < PIECE {
-        return Ok(Held::InRange { start, size: left });
+    Held::InRange {
+        start: p.head + from,
+        size: PIECE.min(p.middle - from),
     }
-    Ok(Held::InRange { start, size: PIECE })
 }
 
 pub(crate) fn piece_at(p: Plan, i: usize) -> Result<Held, DmaBufError>
@@ -59,7 +57,7 @@ pub(crate) fn piece_at(p: Plan, i: usize) -> Result<Held, DmaBufError>
     let j = i - ahead;
     let between = directs(p.middle);
     if j < between {
-        return direct(p, j);
+        return Ok(direct(p, j));
     }
     if j - between < some(p.tail) {
         return Ok(Held::InStore {
@@ -87,7 +85,7 @@ pub(crate) fn ready(
     if !held {
         return Err(DmaBufError::BadState);
     }
-    if store < 2 * bounce(chip) {
+    if store < 2 * chip.bounce() {
         return Err(DmaBufError::BadState);
     }
     if is_past(address, length) {
@@ -100,15 +98,11 @@ pub(crate) fn ready(
 pub fn numbered(n: usize, address: u32, length: usize, chip: Chip, store: usize, i: usize) -> Result<Held, DmaBufError>
     ensures { result ≡ numbered_of n address length chip store i }
 {
-    match ready(true, n, address, length, chip, store) {
-        Err(e) => Err(e),
-        Ok(()) => {
-            if n <= i {
-                return Err(DmaBufError::TooMuch);
-            }
-            piece_at(plan(address, length, chip), i)
-        }
+    ready(true, n, address, length, chip, store)?;
+    if n <= i {
+        return Err(DmaBufError::TooMuch);
     }
+    piece_at(plan(address, length, chip), i)
 }
 
 // Piece i of a range: empty where there is none, and then `piece_refusal` says why.
@@ -146,9 +140,6 @@ pub fn piece_refusal<'a>(
 ) -> Result<(), DmaBufError>
     ensures { result ≡ piece_refusal_of (numbered_of n address (length range.now) chip (length store.now) i) }
 {
-    match numbered(n, address, range.len(), chip, store.len(), i) {
-        Ok(Held::InStore { start: _, size: _ }) => Ok(()),
-        Ok(Held::InRange { start: _, size: _ }) => Ok(()),
-        Err(e) => Err(e),
-    }
+    numbered(n, address, range.len(), chip, store.len(), i)?;
+    Ok(())
 }

@@ -1,18 +1,14 @@
 // What a range is cut into.
-use descriptors::refusal::DmaBufError;
 
-#[derive(Clone, Copy)]
-pub enum Cut {
-    Parts {
-        head: usize,
-        middle: usize,
-        tail: usize,
-    },
-    Refused(DmaBufError),
+#[derive(Clone, Copy, Debug, PartialEq, Eq)]
+pub struct Cut {
+    pub head: usize,
+    pub middle: usize,
+    pub tail: usize,
 }
 
 // The parts of a range, and the size of each half of the store, which holds the outer two.
-#[derive(Clone, Copy)]
+#[derive(Clone, Copy, Debug, PartialEq, Eq)]
 pub struct Plan {
     pub head: usize,
     pub middle: usize,

@@ -5,9 +5,6 @@ use Rattle.descriptors.specs.Record.{is_cpu}
 use Rattle.descriptors.specs.declared.record.DmaDescriptor.{DmaDescriptor}
 use Rattle.rx_stream.specs.declared.piece.Piece.{Piece}
 
-abbrev pub least : ℕ → ℕ → ℕ
-least a b = cond (nat_lt a b) a b
-
 -- place i of a ring of n, or the first one past the last
 abbrev pub wrapped : ℕ → ℕ → ℕ
 wrapped n i = cond (nat_lt i n) i 0

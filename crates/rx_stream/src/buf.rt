@@ -3,83 +3,30 @@ ghost use Rattle.std.specs.Prelude.{◌≡◌, length};
 ghost use Rattle.descriptors.specs.Cells.{records_of};
 ghost use Rattle.descriptors.specs.Ring.{ring_of, new_of};
 ghost use Rattle.rx_stream.specs.Receive.{prepare_of};
-ghost use Rattle.rx_stream.specs.Faces.{built_of, prepared_of, view_of, buf_of, parts_of};
+ghost use Rattle.rx_stream.specs.Faces.{kept, buf_new, buf_now, view_of, buf_of, words_of};
 
 use crate::in_place;
 use crate::view::DmaRxStreamBufView;
-use descriptors::cells::CELLS;
+use descriptors::cells::{CELLS, Words};
 use descriptors::record::{LIMIT, TransferDirection};
 use descriptors::ring;
-use descriptors::ring::Head;
+use descriptors::ring::{Head, Kept};
 
-#[derive(Clone, Copy)]
+#[derive(Clone, Copy, Debug)]
 pub struct DmaRxStreamBuf {
     pub starts: [u32; LIMIT],
     pub cells: [u16; CELLS],
     pub head: Head,
 }
 
-// What new answers, and the ring that it makes of the words: after a refusal they are as they were lent.
-#[derive(Clone, Copy)]
-pub struct Built {
-    pub ring: DmaRxStreamBuf,
-    pub answer: Result<(), DmaBufError>,
-}
-
-// What prepare answers, and the ring that it leaves.
-#[derive(Clone, Copy)]
-pub struct Prepared {
-    pub ring: DmaRxStreamBuf,
-    pub answer: Result<(), DmaBufError>,
-}
-
-// The words that a ring was made of.
-#[derive(Clone, Copy)]
-pub struct Parts {
-    pub starts: [u32; LIMIT],
-    pub cells: [u16; CELLS],
-}
-
 impl DmaRxStreamBuf {
-    // Splits the buffer evenly over the first n records that the words show.
-    pub fn new(starts: [u32; LIMIT], cells: [u16; CELLS], n: usize, buffer: &[u8]) -> Built
-        ensures { result ≡ built_of starts cells (new_of TransferDirection.In (records_of starts cells) n (length buffer.now)) }
+    // Splits the buffer evenly over the first n records that the words show. After a refusal the words are as they were lent.
+    pub fn new(mut starts: [u32; LIMIT], mut cells: [u16; CELLS], n: usize, buffer: &[u8]) -> Kept<DmaRxStreamBuf, ()>
+        ensures { result ≡ kept (buf_new starts cells) (new_of TransferDirection.In (records_of starts cells) n (length buffer.now)) }
     {
-        let mut s = starts;
-        let mut w = cells;
-        let m = ring::new_in(TransferDirection::In, &mut s, &mut w, n, buffer.len());
-        let head = m.head;
-        let answer = m.answer;
-        Built {
-            ring: DmaRxStreamBuf {
-                starts: s,
-                cells: w,
-                head,
-            },
-            answer,
-        }
-    }
-
-    // Consumes the buf, returning the words of its records.
-    pub fn split(self) -> Parts
-        ensures { result ≡ parts_of self }
-    {
-        let starts = self.starts;
-        let cells = self.cells;
-        Parts { starts, cells }
-    }
-
-    // Links up all the records, but not in a circle, and hands them to the device.
-    pub fn prepare(self, len: usize) -> Prepared
-        ensures { result ≡ prepared_of self (prepare_of (ring_of self.starts self.cells self.head) len) }
-    {
-        let starts = self.starts;
-        let mut cells = self.cells;
-        let h = self.head;
-        let m = in_place::prepare_in(&starts, &mut cells, h, len);
-        let head = m.head;
-        let answer = m.answer;
-        Prepared {
+        let mut head = Head::default();
+        let answer = ring::new_in(TransferDirection::In, &mut starts, &mut cells, &mut head, n, buffer.len());
+        Kept {
             ring: DmaRxStreamBuf {
                 starts,
                 cells,
@@ -89,33 +36,42 @@ impl DmaRxStreamBuf {
         }
     }
 
+    // Consumes the buf, returning the words of its records.
+    pub fn split(self) -> Words
+        ensures { result ≡ words_of self }
+    {
+        let DmaRxStreamBuf { starts, cells, head: _ } = self;
+        Words { starts, cells }
+    }
+
+    // Links up all the records, but not in a circle, and hands them to the device.
+    pub fn prepare(mut self, len: usize) -> Kept<DmaRxStreamBuf, ()>
+        ensures { result ≡ kept (buf_now self) (prepare_of (ring_of self.starts self.cells self.head) len) }
+    {
+        let answer = in_place::prepare_in(&self.starts, &mut self.cells, &mut self.head, len);
+        Kept { ring: self, answer }
+    }
+
     // The view of a transfer that starts: its cursor is the first record's start.
     pub fn into_view(self) -> DmaRxStreamBufView
         ensures { result ≡ view_of self }
     {
-        let starts = self.starts;
-        let cells = self.cells;
-        let h = self.head;
-        let head = Head {
-            count: h.count,
-            descriptor_idx: 0,
-            descriptor_offset: 0,
-            tally: h.tally,
-            pre_filled: h.pre_filled,
-        };
+        let DmaRxStreamBuf { starts, cells, head } = self;
         DmaRxStreamBufView {
             starts,
             cells,
-            head,
+            head: Head {
+                descriptor_idx: 0,
+                descriptor_offset: 0,
+                ..head
+            },
         }
     }
 
     pub fn from_view(view: DmaRxStreamBufView) -> Self
         ensures { result ≡ buf_of view }
     {
-        let starts = view.starts;
-        let cells = view.cells;
-        let head = view.head;
+        let DmaRxStreamBufView { starts, cells, head } = view;
         DmaRxStreamBuf {
             starts,
             cells,

@@ -4,18 +4,12 @@ ghost use Rattle.std.proofs.Math.Seq.{paste};
 ghost use Rattle.descriptors.specs.Ring.{ring_of, sound};
 ghost use Rattle.descriptors.specs.Walk.{standing};
 ghost use Rattle.rx_stream.specs.Receive.{over};
-ghost use Rattle.rx_stream.specs.Pieces.{wrapped, least};
+ghost use Rattle.rx_stream.specs.Pieces.{wrapped};
 
 use crate::piece;
 use descriptors::cells;
 use descriptors::record::TransferDirection;
 use descriptors::ring::Head;
-
-fn least(a: usize, b: usize) -> usize
-    ensures { result ≡ least a b }
-{
-    if a < b { a } else { b }
-}
 
 // Place i, or the first one past the last.
 fn wrapped(n: usize, i: usize) -> usize
@@ -44,8 +38,9 @@ pub(crate) fn copy_run<'a>(s: &'a [u32], w: &'a [u16], h: Head, src: &[u8], dst:
     let mut offset = h.descriptor_offset;
     let mut done: usize = 0;
     let mut left = n;
+    // no `for`: each turn passes as many records as its piece has
     while 0 < left {
-        let end = least(n, at + left);
+        let end = n.min(at + left);
         let want = k - done;
         let p = piece::piece_of(w, end, at, offset, want);
         if p.records == 0 {

@@ -1,46 +1,36 @@
-// The calls over lent words: starts, cells and the head by value. Words that hold no records are an unsound ring: refusal 5.
+// The calls over lent words: starts, cells and the head. Words that hold no records are an unsound ring: refusal 5.
 ghost use Rattle.std.specs.Prelude.{◌≡◌, true, false, ◌&&◌, ◌||◌, [], length, ◌==◌};
 ghost use Rattle.descriptors.specs.Record.{is_cpu};
 ghost use Rattle.descriptors.specs.Cells.{cells_now, record_at};
 ghost use Rattle.descriptors.specs.Stores.{hand_all};
 ghost use Rattle.descriptors.specs.Part.{part_from};
-ghost use Rattle.descriptors.specs.Ring.{ring_of};
+ghost use Rattle.descriptors.specs.Ring.{ring_of, head_of};
 ghost use Rattle.rx_stream.specs.Receive.{prepare_of, available_of, peek_of, peek_place, peek_refusal_of, peek_eof_of, consume_of, pop_of, popped_over};
-ghost use Rattle.rx_stream.specs.Faces.{headed_of, consuming_of, popping_of, step_in, taken_by};
+ghost use Rattle.rx_stream.specs.Faces.{step_in, moved_by, took_by};
 
 use crate::{Took, copy, piece};
 use descriptors::record::TransferDirection;
 use descriptors::refusal::DmaBufError;
-use descriptors::ring::{Head, Headed};
+use descriptors::ring::Head;
 use descriptors::{cells, ring, walk};
 
-pub fn prepare_in(s: &[u32], w: &mut [u16], h: Head, len: usize) -> Headed
-    ensures w_after { w.new ≡ cells_now s.now w.old (prepare_of (ring_of s.now w.old h) len).ring.descriptors }
-    ensures value { result ≡ headed_of (prepare_of (ring_of s.now w.old h) len) }
+pub fn prepare_in(s: &[u32], w: &mut [u16], h: &mut Head, len: usize) -> Result<(), DmaBufError>
+    ensures w_after { w.new ≡ cells_now s.now w.old (prepare_of (ring_of s.now w.old h.old) len).ring.descriptors }
+    ensures h_after { h.new ≡ head_of (prepare_of (ring_of s.now w.old h.old) len).ring }
+    ensures value { result ≡ (prepare_of (ring_of s.now w.old h.old) len).answer }
 {
-    let answer = ring::judge_split(s, w, h, len);
-    let Ok(()) = answer else {
-        return Headed { head: h, answer };
-    };
+    ring::judge_split(s, w, *h, len)?;
     walk::link_all(w, TransferDirection::In, h.count);
-    let head = Head {
-        count: h.count,
-        descriptor_idx: 0,
-        descriptor_offset: 0,
-        tally: h.tally,
-        pre_filled: h.pre_filled,
-    };
-    Headed { head, answer }
+    h.descriptor_idx = 0;
+    h.descriptor_offset = 0;
+    Ok(())
 }
 
 // The number of bytes that are available to read.
 pub fn available_in<'a>(s: &'a [u32], w: &'a [u16], h: Head, len: usize) -> Result<usize, DmaBufError>
     ensures { result ≡ available_of (ring_of s.now w.now h) len }
 {
-    let answer = ring::judge(TransferDirection::In, s, w, h, len);
-    let Ok(()) = answer else {
-        return Err(DmaBufError::BadState);
-    };
+    ring::judge(TransferDirection::In, s, w, h, len)?;
     let total = walk::run_bytes(w, TransferDirection::In, h.count, h.descriptor_idx);
     Ok(total - h.descriptor_offset)
 }
@@ -57,8 +47,7 @@ fn part_in<'a, 'b>(
     ensures result_value { result.now ≡ peek_of until_eof (ring_of s.now w.now h) buffer.now }
     ensures ref_ptr_value { result.ref_ptr ≡ part_from buffer.entry (peek_place (ring_of s.now w.now h) buffer.now) }
 {
-    let answer = ring::judge(TransferDirection::In, s, w, h, buffer.len());
-    let Ok(()) = answer else {
+    let Ok(()) = ring::judge(TransferDirection::In, s, w, h, buffer.len()) else {
         return &buffer[0..0];
     };
     let i = h.descriptor_idx;
@@ -96,73 +85,40 @@ pub fn peek_refusal_in<'a>(s: &'a [u32], w: &'a [u16], h: Head, len: usize) -> R
 pub fn peek_eof_in<'a>(s: &'a [u32], w: &'a [u16], h: Head, len: usize) -> Result<bool, DmaBufError>
     ensures { result ≡ peek_eof_of (ring_of s.now w.now h) len }
 {
-    let answer = ring::judge(TransferDirection::In, s, w, h, len);
-    let Ok(()) = answer else {
-        return Err(DmaBufError::BadState);
-    };
+    ring::judge(TransferDirection::In, s, w, h, len)?;
     Ok(piece::flat_eof(w, h.count, h.descriptor_idx))
 }
 
 // ---- bytes taken
 
-#[derive(Clone, Copy)]
-pub struct Taking {
-    pub head: Head,
-    pub taken: usize,
-    pub back: usize,
-}
-
 // Takes k bytes, or all there are, from the cursor on: the core of consume and pop, total on any words.
-fn take_in(w: &mut [u16], h: Head, k: usize) -> Taking
-    ensures w_after { w.new ≡ hand_all TransferDirection.In h.count (step_in w.old h k).back h.descriptor_idx w.old }
-    ensures value { result ≡ taken_by h k (step_in w.old h k) }
+fn take_in(w: &mut [u16], h: &mut Head, k: usize) -> Took
+    ensures w_after { w.new ≡ hand_all TransferDirection.In h.old.count (step_in w.old h.old k).back h.old.descriptor_idx w.old }
+    ensures h_after { h.new ≡ moved_by h.old k (step_in w.old h.old k) }
+    ensures value { result ≡ took_by k (step_in w.old h.old k) }
 {
     let n = h.count;
     let i = h.descriptor_idx;
     let m = walk::walk_over(w, TransferDirection::In, n, i, h.descriptor_offset, k);
     walk::hand_over(w, TransferDirection::In, n, i, m.back);
     let taken = k - m.rest;
-    let head = Head {
-        count: n,
-        descriptor_idx: m.at,
-        descriptor_offset: m.offset,
-        tally: std::num::wrapping_add_u32(h.tally, (taken % 4294967296) as u32),
-        pre_filled: h.pre_filled,
-    };
-    Taking {
-        head,
+    h.descriptor_idx = m.at;
+    h.descriptor_offset = m.offset;
+    h.tally = h.tally.wrapping_add((taken % 4294967296) as u32);
+    Took {
         taken,
         back: m.back,
     }
 }
 
-#[derive(Clone, Copy)]
-pub struct Consuming {
-    pub head: Head,
-    pub answer: Result<Took, DmaBufError>,
-}
-
 // Consumes the first k bytes, or all there are, and gives fully consumed records back to the device.
-pub fn consume_in(s: &[u32], w: &mut [u16], h: Head, len: usize, k: usize) -> Consuming
-    ensures w_after { w.new ≡ cells_now s.now w.old (consume_of (ring_of s.now w.old h) len k).ring.descriptors }
-    ensures value { result ≡ consuming_of (consume_of (ring_of s.now w.old h) len k) }
+pub fn consume_in(s: &[u32], w: &mut [u16], h: &mut Head, len: usize, k: usize) -> Result<Took, DmaBufError>
+    ensures w_after { w.new ≡ cells_now s.now w.old (consume_of (ring_of s.now w.old h.old) len k).ring.descriptors }
+    ensures h_after { h.new ≡ head_of (consume_of (ring_of s.now w.old h.old) len k).ring }
+    ensures value { result ≡ (consume_of (ring_of s.now w.old h.old) len k).answer }
 {
-    let answer = ring::judge(TransferDirection::In, s, w, h, len);
-    let Ok(()) = answer else {
-        return Consuming {
-            head: h,
-            answer: Err(DmaBufError::BadState),
-        };
-    };
-    let m = take_in(w, h, k);
-    let head = m.head;
-    Consuming {
-        head,
-        answer: Ok(Took {
-            taken: m.taken,
-            back: m.back,
-        }),
-    }
+    ring::judge(TransferDirection::In, s, w, *h, len)?;
+    Ok(take_in(w, h, k))
 }
 
 // Whether a pop of k bytes takes none, and leaves empty records as they are.
@@ -172,44 +128,30 @@ fn idle(w: &[u16], i: usize, k: usize) -> bool
     if k == 0 {
         return true;
     }
-    let owner = cells::owner_of(w, i);
-    if !cells::is_cpu(owner) {
+    if !cells::owner_of(w, i).is_cpu() {
         return false;
     }
     cells::length_of(w, i) == 0
 }
 
-#[derive(Clone, Copy)]
-pub struct Popping {
-    pub head: Head,
-    pub answer: Result<usize, DmaBufError>,
-}
-
 // Reads as much as possible into dst from the available bytes.
-pub fn pop_in(s: &[u32], w: &mut [u16], h: Head, buffer: &[u8], dst: &mut [u8]) -> Popping
-    ensures w_after { w.new ≡ cells_now s.now w.old (pop_of (ring_of s.now w.old h) (length buffer.now) (length dst.old)).ring.descriptors }
-    ensures dst_after { dst.new ≡ popped_over (ring_of s.now w.old h) buffer.now dst.old }
-    ensures value { result ≡ popping_of (pop_of (ring_of s.now w.old h) (length buffer.now) (length dst.old)) }
+pub fn pop_in(
+    s: &[u32],
+    w: &mut [u16],
+    h: &mut Head,
+    buffer: &[u8],
+    dst: &mut [u8],
+) -> Result<usize, DmaBufError>
+    ensures w_after { w.new ≡ cells_now s.now w.old (pop_of (ring_of s.now w.old h.old) (length buffer.now) (length dst.old)).ring.descriptors }
+    ensures h_after { h.new ≡ head_of (pop_of (ring_of s.now w.old h.old) (length buffer.now) (length dst.old)).ring }
+    ensures dst_after { dst.new ≡ popped_over (ring_of s.now w.old h.old) buffer.now dst.old }
+    ensures value { result ≡ (pop_of (ring_of s.now w.old h.old) (length buffer.now) (length dst.old)).answer }
 {
-    let answer = ring::judge(TransferDirection::In, s, w, h, buffer.len());
-    let Ok(()) = answer else {
-        return Popping {
-            head: h,
-            answer: Err(DmaBufError::BadState),
-        };
-    };
+    ring::judge(TransferDirection::In, s, w, *h, buffer.len())?;
     let k = dst.len();
     if idle(w, h.descriptor_idx, k) {
-        return Popping {
-            head: h,
-            answer: Ok(0),
-        };
+        return Ok(0);
     }
-    copy::copy_run(s, w, h, buffer, dst);
-    let m = take_in(w, h, k);
-    let head = m.head;
-    Popping {
-        head,
-        answer: Ok(m.taken),
-    }
+    copy::copy_run(s, w, *h, buffer, dst);
+    Ok(take_in(w, h, k).taken)
 }

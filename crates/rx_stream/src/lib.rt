@@ -2,8 +2,6 @@
 // is done in place, on lent words; document 01's calls, ring in and ring out, stand above it.
 #![tactic(auto)]
 
-use descriptors::refusal::DmaBufError;
-
 pub mod piece; // piece.rt: what lies in one piece from a record on
 mod copy; // copy.rt: the bytes of the CPU-owned run, copied piece by piece
 pub mod in_place; // in_place.rt: the calls over lent words
@@ -11,15 +9,8 @@ pub mod buf; // buf.rt: DmaRxStreamBuf, a ring before and after a transfer
 pub mod view; // view.rt: DmaRxStreamBufView, a ring during a transfer
 
 // What a consume answers: the bytes taken and the records gone back.
-#[derive(Clone, Copy)]
-pub enum Took {
-    Bytes { taken: usize, back: usize },
-    Refused(DmaBufError),
-}
-
-// What the companion of peek_until_eof answers: whether the part ended at an EOF record.
-#[derive(Clone, Copy)]
-pub enum Ended {
-    Eof(bool),
-    Refused(DmaBufError),
+#[derive(Clone, Copy, Debug, PartialEq, Eq)]
+pub struct Took {
+    pub taken: usize,
+    pub back: usize,
 }

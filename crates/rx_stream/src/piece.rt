@@ -36,17 +36,14 @@ pub fn flat_bytes(w: &[u16], until_eof: bool, n: usize, i: usize) -> usize
         return 0;
     }
     let mut total: usize = 0;
-    let mut at = i;
-    while at < n {
-        let owner = cells::owner_of(w, at);
-        if !cells::is_cpu(owner) {
+    for at in i..n {
+        if !cells::owner_of(w, at).is_cpu() {
             return total;
         }
         total += cells::length_of(w, at);
         if ends_with(w, until_eof, at) {
             return total;
         }
-        at += 1;
     }
     total
 }
@@ -58,10 +55,8 @@ pub fn flat_eof(w: &[u16], n: usize, i: usize) -> bool
     if LIMIT < n {
         return false;
     }
-    let mut at = i;
-    while at < n {
-        let owner = cells::owner_of(w, at);
-        if !cells::is_cpu(owner) {
+    for at in i..n {
+        if !cells::owner_of(w, at).is_cpu() {
             return false;
         }
         if cells::suc_eof_of(w, at) {
@@ -70,13 +65,12 @@ pub fn flat_eof(w: &[u16], n: usize, i: usize) -> bool
         if is_short(w, at) {
             return false;
         }
-        at += 1;
     }
     false
 }
 
 // The bytes and the records of a piece.
-#[derive(Clone, Copy)]
+#[derive(Clone, Copy, Debug, PartialEq, Eq, Default)]
 pub struct Piece {
     pub bytes: usize,
     pub records: usize,
@@ -86,39 +80,31 @@ pub struct Piece {
 fn holds(w: &[u16], i: usize, o: usize) -> usize
     ensures { (result ≡ cell 1 w.now i - o) × (result < 65536) }
 {
-    let length = cells::length_of(w, i);
-    if o < length { length - o } else { 0 }
+    cells::length_of(w, i).saturating_sub(o)
 }
 
 // The piece from byte o of record i on, of the records before `end`; it goes on no longer than until it holds `want` bytes.
 pub(crate) fn piece_of(w: &[u16], end: usize, i: usize, o: usize, want: usize) -> Piece
     ensures { result ≡ (if nat_le end limit then piece_of (record_at [] w.now) o want (end - i) i else nothing) }
 {
+    let mut piece = Piece::default();
     if LIMIT < end {
-        return Piece {
-            bytes: 0,
-            records: 0,
-        };
+        return piece;
     }
-    let mut bytes: usize = 0;
-    let mut records: usize = 0;
-    let mut at = i;
     let mut offset = o;
-    while at < end {
-        let owner = cells::owner_of(w, at);
-        if !cells::is_cpu(owner) {
-            return Piece { bytes, records };
+    for at in i..end {
+        if !cells::owner_of(w, at).is_cpu() {
+            return piece;
         }
-        bytes += holds(w, at, offset);
-        records += 1;
-        if want <= bytes {
-            return Piece { bytes, records };
+        piece.bytes += holds(w, at, offset);
+        piece.records += 1;
+        if want <= piece.bytes {
+            return piece;
         }
         if is_short(w, at) {
-            return Piece { bytes, records };
+            return piece;
         }
-        at += 1;
         offset = 0;
     }
-    Piece { bytes, records }
+    piece
 }

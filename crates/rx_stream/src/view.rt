@@ -3,32 +3,19 @@ ghost use Rattle.std.specs.Prelude.{◌≡◌, true, false, length};
 ghost use Rattle.descriptors.specs.Part.{part_from};
 ghost use Rattle.descriptors.specs.Ring.{ring_of};
 ghost use Rattle.rx_stream.specs.Receive.{available_of, peek_of, peek_place, peek_refusal_of, peek_eof_of, consume_of, pop_of, popped_over};
-ghost use Rattle.rx_stream.specs.Faces.{consumed_of, popped_of};
+ghost use Rattle.rx_stream.specs.Faces.{kept, view_now};
 
 use crate::{Took, in_place};
 use descriptors::cells::CELLS;
 use descriptors::record::LIMIT;
-use descriptors::ring::Head;
+use descriptors::refusal::DmaBufError;
+use descriptors::ring::{Head, Kept};
 
-#[derive(Clone, Copy)]
+#[derive(Clone, Copy, Debug)]
 pub struct DmaRxStreamBufView {
     pub starts: [u32; LIMIT],
     pub cells: [u16; CELLS],
     pub head: Head,
-}
-
-// What consume answers, and the ring that it leaves.
-#[derive(Clone, Copy)]
-pub struct Consumed {
-    pub ring: DmaRxStreamBufView,
-    pub answer: Result<Took, DmaBufError>,
-}
-
-// What pop answers, and the ring that it leaves.
-#[derive(Clone, Copy)]
-pub struct Popped {
-    pub ring: DmaRxStreamBufView,
-    pub answer: Result<usize, DmaBufError>,
 }
 
 impl DmaRxStreamBufView {
@@ -36,10 +23,7 @@ impl DmaRxStreamBufView {
     pub fn available_bytes(self, len: usize) -> Result<usize, DmaBufError>
         ensures { result ≡ available_of (ring_of self.starts self.cells self.head) len }
     {
-        let s = self.starts;
-        let w = self.cells;
-        let h = self.head;
-        in_place::available_in(&s, &w, h, len)
+        in_place::available_in(&self.starts, &self.cells, self.head, len)
     }
 
     // The longest part of the buffer, from the cursor on, that holds bytes to read. It ignores EOFs.
@@ -47,10 +31,7 @@ impl DmaRxStreamBufView {
         ensures result_value { result.now ≡ peek_of false (ring_of self.starts self.cells self.head) buffer.now }
         ensures ref_ptr_value { result.ref_ptr ≡ part_from buffer.entry (peek_place (ring_of self.starts self.cells self.head) buffer.now) }
     {
-        let s = self.starts;
-        let w = self.cells;
-        let h = self.head;
-        in_place::peek_in(&s, &w, h, buffer)
+        in_place::peek_in(&self.starts, &self.cells, self.head, buffer)
     }
 
     // The same, but it does not skip over any EOF.
@@ -58,78 +39,44 @@ impl DmaRxStreamBufView {
         ensures result_value { result.now ≡ peek_of true (ring_of self.starts self.cells self.head) buffer.now }
         ensures ref_ptr_value { result.ref_ptr ≡ part_from buffer.entry (peek_place (ring_of self.starts self.cells self.head) buffer.now) }
     {
-        let s = self.starts;
-        let w = self.cells;
-        let h = self.head;
-        in_place::peek_until_eof_in(&s, &w, h, buffer)
+        in_place::peek_until_eof_in(&self.starts, &self.cells, self.head, buffer)
     }
 
     // Why a peek of this ring is empty, if it was refused.
     pub fn peek_refusal(self, len: usize) -> Result<(), DmaBufError>
         ensures { result ≡ peek_refusal_of (ring_of self.starts self.cells self.head) len }
     {
-        let s = self.starts;
-        let w = self.cells;
-        let h = self.head;
-        in_place::peek_refusal_in(&s, &w, h, len)
+        in_place::peek_refusal_in(&self.starts, &self.cells, self.head, len)
     }
 
     // Whether the part of peek_until_eof ends with an EOF.
     pub fn peek_eof(self, len: usize) -> Result<bool, DmaBufError>
         ensures { result ≡ peek_eof_of (ring_of self.starts self.cells self.head) len }
     {
-        let s = self.starts;
-        let w = self.cells;
-        let h = self.head;
-        in_place::peek_eof_in(&s, &w, h, len)
+        in_place::peek_eof_in(&self.starts, &self.cells, self.head, len)
     }
 
     // Consumes the first k bytes, or all there are, and gives fully consumed records back to the device.
-    pub fn consume(self, len: usize, k: usize) -> Consumed
-        ensures { result ≡ consumed_of self (consume_of (ring_of self.starts self.cells self.head) len k) }
+    pub fn consume(mut self, len: usize, k: usize) -> Kept<DmaRxStreamBufView, Took>
+        ensures { result ≡ kept (view_now self) (consume_of (ring_of self.starts self.cells self.head) len k) }
     {
-        let starts = self.starts;
-        let mut cells = self.cells;
-        let h = self.head;
-        let m = in_place::consume_in(&starts, &mut cells, h, len, k);
-        let head = m.head;
-        let answer = m.answer;
-        Consumed {
-            ring: DmaRxStreamBufView {
-                starts,
-                cells,
-                head,
-            },
-            answer,
-        }
+        let answer = in_place::consume_in(&self.starts, &mut self.cells, &mut self.head, len, k);
+        Kept { ring: self, answer }
     }
 
     // Reads as much as possible into dst from the available bytes.
-    pub fn pop(self, buffer: &[u8], dst: &mut [u8]) -> Popped
-        ensures value { result ≡ popped_of self (pop_of (ring_of self.starts self.cells self.head) (length buffer.now) (length dst.old)) }
+    pub fn pop(mut self, buffer: &[u8], dst: &mut [u8]) -> Kept<DmaRxStreamBufView, usize>
+        ensures value { result ≡ kept (view_now self) (pop_of (ring_of self.starts self.cells self.head) (length buffer.now) (length dst.old)) }
         ensures dst_after { dst.new ≡ popped_over (ring_of self.starts self.cells self.head) buffer.now dst.old }
     {
-        let starts = self.starts;
-        let mut cells = self.cells;
-        let h = self.head;
-        let m = in_place::pop_in(&starts, &mut cells, h, buffer, dst);
-        let head = m.head;
-        let answer = m.answer;
-        Popped {
-            ring: DmaRxStreamBufView {
-                starts,
-                cells,
-                head,
-            },
-            answer,
-        }
+        let answer = in_place::pop_in(&self.starts, &mut self.cells, &mut self.head, buffer, dst);
+        Kept { ring: self, answer }
     }
 
     // The bytes taken so far, round and round 2^32. Two readings differ by ring::between.
     pub fn tally(self) -> u32
         ensures { result ≡ self.head.tally }
     {
-        let h = self.head;
-        h.tally
+        self.head.tally
     }
 }

@@ -1,32 +1,16 @@
--- How the code's answers are read from the rules' outcomes, and what the parts of the calls do to the words.
-use Rattle.std.specs.Prelude.{ℕ, ◌+◌, ◌-◌, ◌%◌, ◌^◌, true, cond, List, [], length, ◌==◌, nat_le, Ok, Err, None}
+-- Where the parts on offer begin, and what the parts of the calls do to the words and the head.
+use Rattle.std.specs.Prelude.{ℕ, ◌+◌, ◌-◌, ◌%◌, ◌^◌, true, cond, List, [], length, ◌==◌, nat_le, None}
 use Rattle.descriptors.specs.Record.{limit, up_to}
 use Rattle.descriptors.specs.Cells.{cell, record_at, put_length, put_eof, put_owner, put_next}
 use Rattle.descriptors.specs.Stores.{hand_all}
-use Rattle.descriptors.specs.Ring.{Outcome, Ring, head_of, sound, split_sound}
+use Rattle.descriptors.specs.Ring.{Ring, sound, split_sound}
 use Rattle.descriptors.specs.Walk.{run_bytes, walk_in}
 use Rattle.descriptors.specs.declared.record.Owner.TheVariants.{Cpu}
 use Rattle.descriptors.specs.declared.record.TransferDirection.TheVariants.{Out}
 use Rattle.descriptors.specs.declared.ring.Head.{Head}
-use Rattle.descriptors.specs.declared.ring.Headed.{Headed}
 use Rattle.descriptors.specs.declared.walk.Moved.{Moved}
 use Rattle.tx_stream.specs.Transmit.{Reached, reached, write_at}
-use Rattle.tx_stream.specs.declared.answer.Accepting.{Accepting}
-use Rattle.descriptors.specs.Refusal.{Answer}
 use Rattle.tx_stream.specs.declared.prepare.Cursor.{Cursor}
-
--- ---- the answers in place
-
-abbrev pub accepting_of : Outcome (Answer ℕ) → Accepting
-accepting_of o = record { head = head_of o.ring; answer = o.answer }
-
-abbrev pub headed_of : Outcome (Answer Unit) → Headed
-headed_of o = record { head = head_of o.ring; answer = o.answer }
-
--- what the judge said, as a count
-abbrev pub counted_of : Answer Unit → Answer ℕ
-counted_of (Ok tt) = Ok 0
-counted_of (Err e) = Err e
 
 -- ---- the parts on offer: each is the very part of the lent buffer that begins at a place
 

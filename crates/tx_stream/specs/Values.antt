@@ -2,13 +2,10 @@
 use Rattle.std.specs.Prelude.{ℕ, List}
 use Rattle.descriptors.specs.Cells.{starts_now, cells_now}
 use Rattle.descriptors.specs.Ring.{Ring, Outcome, ring_of, head_of}
-use Rattle.tx_stream.specs.declared.buf.DmaTxStreamBuf.{DmaTxStreamBuf}
-use Rattle.tx_stream.specs.declared.buf.Built.{Built}
-use Rattle.tx_stream.specs.declared.buf.Pushed.{Pushed}
-use Rattle.tx_stream.specs.declared.buf.Prepared.{Prepared}
-use Rattle.tx_stream.specs.declared.view.DmaTxStreamBufView.{DmaTxStreamBufView}
 use Rattle.descriptors.specs.Refusal.{Answer}
-use Rattle.tx_stream.specs.declared.view.Advanced.{Advanced}
+use Rattle.descriptors.specs.declared.ring.Kept.{Kept}
+use Rattle.tx_stream.specs.declared.buf.DmaTxStreamBuf.{DmaTxStreamBuf}
+use Rattle.tx_stream.specs.declared.view.DmaTxStreamBufView.{DmaTxStreamBufView}
 
 abbrev pub buf_ring : DmaTxStreamBuf → Ring
 buf_ring b = ring_of b.starts b.cells b.head
@@ -23,18 +20,10 @@ buf_by b r = record { starts = b.starts; cells = cells_now b.starts b.cells r.de
 abbrev pub view_by : DmaTxStreamBufView → Ring → DmaTxStreamBufView
 view_by v r = record { starts = v.starts; cells = cells_now v.starts v.cells r.descriptors; head = head_of r }
 
-abbrev pub built_of : List ℕ → List ℕ → Outcome (Answer Unit) → Built
-built_of st ws o =
-    record {
-      ring = record { starts = starts_now st ws o.ring.descriptors; cells = cells_now st ws o.ring.descriptors; head = head_of o.ring };
-      answer = o.answer;
-    }
+-- `new`'s, on words that were given
+abbrev pub built_by : List ℕ → List ℕ → Ring → DmaTxStreamBuf
+built_by st ws r = record { starts = starts_now st ws r.descriptors; cells = cells_now st ws r.descriptors; head = head_of r }
 
-abbrev pub pushed_of : DmaTxStreamBuf → Outcome (Answer ℕ) → Pushed
-pushed_of b o = record { ring = buf_by b o.ring; answer = o.answer }
-
-abbrev pub prepared_of : DmaTxStreamBuf → Outcome (Answer Unit) → Prepared
-prepared_of b o = record { ring = buf_by b o.ring; answer = o.answer }
-
-abbrev pub advanced_of : DmaTxStreamBufView → Outcome (Answer ℕ) → Advanced
-advanced_of v o = record { ring = view_by v o.ring; answer = o.answer }
+-- a call's answer, and the ring that it leaves
+abbrev pub kept_of : {R A : Type 0} → (Ring → R) → Outcome (Answer A) → Kept R A
+kept_of by o = record { ring = by o.ring; answer = o.answer }

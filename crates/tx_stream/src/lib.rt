@@ -1,8 +1,7 @@
 // The stream transmit ring: bytes prefilled, `prepare`, then bytes pushed, offered and committed while the device sends. The calls work
-// in place, on lent words with the head by value; `DmaTxStreamBuf` and `DmaTxStreamBufView` are the same calls with the ring by value.
+// in place, on lent words and a lent head; `DmaTxStreamBuf` and `DmaTxStreamBufView` are the same calls with the ring by value.
 #![tactic(auto)]
 
-pub mod answer; // answer.rt: what a call in place answers
 mod copy; // copy.rt: bytes copied behind a place, round the buffer's end
 mod room; // room.rt: what is free from the cursor on, and where it lies
 mod accept; // accept.rt: bytes accepted from the cursor on

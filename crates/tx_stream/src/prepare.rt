@@ -2,12 +2,13 @@
 ghost use Rattle.std.specs.Prelude.{◌≡◌, ◌<◌, ◌≤◌, []};
 ghost use Rattle.descriptors.specs.Record.{up_to};
 ghost use Rattle.descriptors.specs.Cells.{record_at, cells_now};
-ghost use Rattle.descriptors.specs.Ring.{ring_of};
+ghost use Rattle.descriptors.specs.Ring.{ring_of, head_of};
 ghost use Rattle.tx_stream.specs.Transmit.{reached, prepare_of};
-ghost use Rattle.tx_stream.specs.Faces.{headed_of, fill_cells, cut_cells, marked_cells, marked_cursor};
+ghost use Rattle.tx_stream.specs.Faces.{fill_cells, cut_cells, marked_cells, marked_cursor};
 
 use descriptors::record::{Owner, TransferDirection};
-use descriptors::ring::{Head, Headed};
+use descriptors::refusal::DmaBufError;
+use descriptors::ring::Head;
 use descriptors::{cells, ring, walk};
 
 #[derive(Clone, Copy)]
@@ -20,9 +21,8 @@ pub struct Cursor {
 fn end_of(w: &[u16], n: usize, bytes_pushed: usize) -> Cursor
     ensures { (result.at ≡ (reached (record_at [] w.now) n 0 bytes_pushed).at) × (result.offset ≡ (reached (record_at [] w.now) n 0 bytes_pushed).rest) × (result.at < n → result.offset < 65536) }
 {
-    let mut d: usize = 0;
     let mut remaining = bytes_pushed;
-    while d < n {
+    for d in 0..n {
         let size = cells::size_of(w, d);
         if remaining < size {
             return Cursor {
@@ -31,10 +31,9 @@ fn end_of(w: &[u16], n: usize, bytes_pushed: usize) -> Cursor
             };
         }
         remaining -= size;
-        d += 1;
     }
     Cursor {
-        at: d,
+        at: n,
         offset: remaining,
     }
 }
@@ -43,12 +42,10 @@ fn end_of(w: &[u16], n: usize, bytes_pushed: usize) -> Cursor
 fn mark_filled(w: &mut [u16], end: usize)
     ensures { w.new ≡ up_to fill_cells end w.old }
 {
-    let mut d: usize = 0;
-    while d < end {
+    for d in 0..end {
         let size = cells::size_of(w, d);
         cells::set_length(w, d, size as u16);
         cells::set_suc_eof(w, d, true);
-        d += 1;
     }
 }
 
@@ -60,10 +57,8 @@ fn terminate_tx_stream_at(w: &mut [u16], n: usize, start: usize)
     if 0 < start {
         cells::set_next(w, start - 1, None);
     }
-    let mut i = start;
-    while i < n {
+    for i in start..n {
         cells::set_owner(w, i, Owner::Cpu);
-        i += 1;
     }
 }
 
@@ -92,26 +87,19 @@ fn mark_tx_stream_descriptors_ready(w: &mut [u16], n: usize, bytes_pushed: usize
     end
 }
 
-pub fn prepare_in(s: &[u32], w: &mut [u16], h: Head, len: usize) -> Headed
-    ensures w_after { w.new ≡ cells_now s.now w.old (prepare_of (ring_of s.now w.old h) len).ring.descriptors }
-    ensures value { result ≡ headed_of (prepare_of (ring_of s.now w.old h) len) }
+pub fn prepare_in(s: &[u32], w: &mut [u16], h: &mut Head, len: usize) -> Result<(), DmaBufError>
+    ensures w_after { w.new ≡ cells_now s.now w.old (prepare_of (ring_of s.now w.old h.old) len).ring.descriptors }
+    ensures h_after { h.new ≡ head_of (prepare_of (ring_of s.now w.old h.old) len).ring }
+    ensures value { result ≡ (prepare_of (ring_of s.now w.old h.old) len).answer }
 {
-    let answer = ring::judge_split(s, w, h, len);
-    let Ok(()) = answer else {
-        return Headed { head: h, answer };
-    };
-    let n = h.count;
-    walk::link_all(w, TransferDirection::Out, n);
-    let cursor = mark_tx_stream_descriptors_ready(w, n, h.pre_filled);
-    let head = Head {
-        count: n,
+    ring::judge_split(s, w, *h, len)?;
+    walk::link_all(w, TransferDirection::Out, h.count);
+    let cursor = mark_tx_stream_descriptors_ready(w, h.count, h.pre_filled);
+    *h = Head {
         descriptor_idx: cursor.at,
         descriptor_offset: cursor.offset,
-        tally: h.tally,
         pre_filled: 0,
+        ..*h
     };
-    Headed {
-        head,
-        answer: Ok(()),
-    }
+    Ok(())
 }

@@ -3,7 +3,6 @@ ghost use Rattle.std.specs.Prelude.{◌≡◌, ◌+◌, ◌-◌, ◌<◌, ◌≤
 ghost use Rattle.descriptors.specs.Cells.{start_at};
 ghost use Rattle.tx_stream.specs.Faces.{room_of};
 
-use crate::copy;
 use descriptors::record::TransferDirection;
 use descriptors::ring::Head;
 use descriptors::{cells, walk};
@@ -13,10 +12,7 @@ pub(crate) fn available(w: &[u16], h: Head) -> usize
     ensures { result ≡ room_of w.now h }
 {
     let total = walk::run_bytes(w, TransferDirection::Out, h.count, h.descriptor_idx);
-    if total < h.descriptor_offset {
-        return 0;
-    }
-    total - h.descriptor_offset
+    total.saturating_sub(h.descriptor_offset)
 }
 
 // Where the next byte goes.
@@ -32,5 +28,5 @@ pub(crate) fn offered<'a>(w: &'a [u16], h: Head, at: usize, len: usize) -> usize
     requires { at ≤ len }
     ensures { result ≡ min (room_of w.now h) (len - at) }
 {
-    copy::least(available(w, h), len - at)
+    available(w, h).min(len - at)
 }

@@ -3,25 +3,20 @@ ghost use Rattle.std.specs.Prelude.{◌≡◌, length};
 ghost use Rattle.descriptors.specs.Part.{part_from, as_read};
 ghost use Rattle.tx_stream.specs.Transmit.{available_of, push_of, push_into, offer_of, offer_refusal_of, commit_of, advance_of};
 ghost use Rattle.tx_stream.specs.Faces.{offer_place};
-ghost use Rattle.tx_stream.specs.Values.{view_ring, advanced_of};
+ghost use Rattle.tx_stream.specs.Values.{view_ring, view_by, kept_of};
 
 use crate::in_place;
 use descriptors::cells::CELLS;
 use descriptors::record::LIMIT;
-use descriptors::ring::Head;
+use descriptors::refusal::DmaBufError;
+use descriptors::ring::{Head, Kept};
 
 // A view into a DmaTxStreamBuf.
-#[derive(Clone, Copy)]
+#[derive(Clone, Copy, Debug)]
 pub struct DmaTxStreamBufView {
     pub starts: [u32; LIMIT],
     pub cells: [u16; CELLS],
     pub head: Head,
-}
-
-#[derive(Clone, Copy)]
-pub struct Advanced {
-    pub ring: DmaTxStreamBufView,
-    pub answer: Result<usize, DmaBufError>,
 }
 
 impl DmaTxStreamBufView {
@@ -29,31 +24,17 @@ impl DmaTxStreamBufView {
     pub fn available_bytes(self, len: usize) -> Result<usize, DmaBufError>
         ensures { result ≡ available_of (view_ring self) len }
     {
-        let s = self.starts;
-        let w = self.cells;
-        let h = self.head;
-        in_place::available_in(&s, &w, h, len)
+        in_place::available_in(&self.starts, &self.cells, self.head, len)
     }
 
     // Pushes data into the stream buffer, as much as is available.
-    pub fn push(self, buffer: &mut [u8], data: &[u8]) -> Advanced
-        ensures value { result ≡ advanced_of self (push_of (view_ring self) (length buffer.old) (length «data».now)) }
+    pub fn push(self, buffer: &mut [u8], data: &[u8]) -> Kept<DmaTxStreamBufView, usize>
+        ensures value { result ≡ kept_of (view_by self) (push_of (view_ring self) (length buffer.old) (length «data».now)) }
         ensures buffer_after { buffer.new ≡ push_into (view_ring self) buffer.old «data».now }
     {
-        let s = self.starts;
-        let mut w = self.cells;
-        let h = self.head;
-        let m = in_place::push_in(&s, &mut w, h, buffer, data);
-        let head = m.head;
-        let answer = m.answer;
-        Advanced {
-            ring: DmaTxStreamBufView {
-                starts: s,
-                cells: w,
-                head,
-            },
-            answer,
-        }
+        let mut ring = self;
+        let answer = in_place::push_in(&ring.starts, &mut ring.cells, &mut ring.head, buffer, data);
+        Kept { ring, answer }
     }
 
     // The Rust's `push_with`, in two: the part on offer, to be written, and then a commit.
@@ -61,59 +42,31 @@ impl DmaTxStreamBufView {
         ensures result_value { result.now ≡ offer_of (view_ring self) buffer.old }
         ensures ref_ptr_value { result.ref_ptr ≡ part_from (as_read buffer.entry) (offer_place (view_ring self) buffer.old) }
     {
-        let s = self.starts;
-        let w = self.cells;
-        let h = self.head;
-        in_place::offer_in(&s, &w, h, buffer)
+        in_place::offer_in(&self.starts, &self.cells, self.head, buffer)
     }
 
     pub fn offer_refusal(self, len: usize) -> Result<(), DmaBufError>
         ensures { result ≡ offer_refusal_of (view_ring self) len }
     {
-        let s = self.starts;
-        let w = self.cells;
-        let h = self.head;
-        in_place::offer_refusal_in(&s, &w, h, len)
+        in_place::offer_refusal_in(&self.starts, &self.cells, self.head, len)
     }
 
     // Accepts the first k bytes of the part on offer.
-    pub fn commit(self, len: usize, k: usize) -> Advanced
-        ensures { result ≡ advanced_of self (commit_of (view_ring self) len k) }
+    pub fn commit(self, len: usize, k: usize) -> Kept<DmaTxStreamBufView, usize>
+        ensures { result ≡ kept_of (view_by self) (commit_of (view_ring self) len k) }
     {
-        let s = self.starts;
-        let mut w = self.cells;
-        let h = self.head;
-        let m = in_place::commit_in(&s, &mut w, h, len, k);
-        let head = m.head;
-        let answer = m.answer;
-        Advanced {
-            ring: DmaTxStreamBufView {
-                starts: s,
-                cells: w,
-                head,
-            },
-            answer,
-        }
+        let mut ring = self;
+        let answer = in_place::commit_in(&ring.starts, &mut ring.cells, &mut ring.head, len, k);
+        Kept { ring, answer }
     }
 
     // Accepts the first k of the available bytes.
-    pub fn advance(self, len: usize, k: usize) -> Advanced
-        ensures { result ≡ advanced_of self (advance_of (view_ring self) len k) }
+    pub fn advance(self, len: usize, k: usize) -> Kept<DmaTxStreamBufView, usize>
+        ensures { result ≡ kept_of (view_by self) (advance_of (view_ring self) len k) }
     {
-        let s = self.starts;
-        let mut w = self.cells;
-        let h = self.head;
-        let m = in_place::advance_in(&s, &mut w, h, len, k);
-        let head = m.head;
-        let answer = m.answer;
-        Advanced {
-            ring: DmaTxStreamBufView {
-                starts: s,
-                cells: w,
-                head,
-            },
-            answer,
-        }
+        let mut ring = self;
+        let answer = in_place::advance_in(&ring.starts, &mut ring.cells, &mut ring.head, len, k);
+        Kept { ring, answer }
     }
 
     // The bytes accepted so far, which go round at 4,294,967,296.

@@ -10,16 +10,28 @@ use Rattle.descriptors.specs.laws.Words.{words_are, starts-same, cells_same}
 use Rattle.descriptors.specs.declared.record.DmaDescriptor.{DmaDescriptor}
 use Rattle.descriptors.specs.declared.refusal.DmaBufError.{DmaBufError}
 use Rattle.psram.specs.Cut.{plan_for}
-use Rattle.psram.specs.Piece.{piece_of, start_in, size_in, ready_of}
+use Rattle.psram.specs.Piece.{piece_of, start_of, size_of, start_in, size_in, ready_of}
 use Rattle.psram.specs.List.{Leaves, link_before, listed_at, link_cells, list_start, list_cells, covered_of, used_of, listing_by, list_of}
 use Rattle.psram.specs.laws.Pieces.{ready}
 use Rattle.psram.specs.declared.chip.Chip.{Chip}
 use Rattle.descriptors.specs.Refusal.{Answer}
+use Rattle.std.specs.Result.{result_unwrap_or}
+use Rattle.psram.specs.declared.held.Held.{Held}
+use Rattle.psram.specs.declared.held.Held.TheVariants.{InStore}
 use Rattle.psram.specs.declared.plan.Plan.{Plan}
 
 pub link-some : (i : ℕ) (ws : List ℕ) → (i ≡ 0 → ⊥) → link_cells i ws ≡ put_next ws (i - 1) (Some i)
 link-some zero ws h = absurd (h refl)
 link-some (suc j) ws h = let e : suc j - 1 ≡ j = omega arith in rw e refl
+
+-- a piece that is there is listed as it is, and one that is not as no bytes at 0
+pub held-size : (a : Answer Held) (h : Held) (size : ℕ) (b : Answer Held) → a ≡ b → h ≡ result_unwrap_or a (InStore 0 0) → size ≡ size_of h → size ≡ size_in b
+held-size (Ok x) h size b e g f = f ∙ ap size_of g ∙ ap size_in e
+held-size (Err x) h size b e g f = f ∙ ap size_of g ∙ ap size_in e
+
+pub held-start : (a : Answer Held) (h : Held) (start : ℕ) (b : Answer Held) → a ≡ b → h ≡ result_unwrap_or a (InStore 0 0) → start ≡ start_of h → start ≡ start_in b
+held-start (Ok x) h start b e g f = f ∙ ap start_of g ∙ ap start_in e
+held-start (Err x) h start b e g f = f ∙ ap start_of g ∙ ap start_in e
 
 pub covered_none : (p : Plan) → covered_of p 0 ≡ 0
 unfolding covered_of

@@ -3,7 +3,6 @@ use Rattle.std.specs.Prelude.{ℕ, ◌+◌, ◌-◌, ◌*◌, ◌%◌, ◌<◌, 
 use Rattle.std.proofs.Common.{inl, inr, ⊎_elim, arith, ltb-true, ltb-false, leb-true}
 use Rattle.descriptors.specs.Record.{limit, top}
 use Rattle.descriptors.specs.declared.refusal.DmaBufError.TheVariants.{TooManyDescriptors, BadState, TooMuch, UnsupportedMemoryRegion}
-use Rattle.descriptors.specs.declared.refusal.DmaBufError.{DmaBufError}
 use Rattle.psram.specs.Cut.{piece, least_of, bounce_of, plan_for}
 use Rattle.psram.specs.Piece.{Small, bytes_of, some, directs, direct_of, piece_of, start_in, size_in, ready_of, numbered_by, numbered_of}
 use Rattle.psram.specs.laws.Parts.{Parted, parted, bounce-is, sides}
@@ -34,15 +33,12 @@ lies p i =
     (ltb (i - some p.head - directs p.middle) (some p.tail))
   where
     go : (a b : Bool) → ltb (i - some p.head) (directs p.middle) ≡ b → (c : Bool)
-        → Lies p (cond a (Ok (InStore 0 p.head)) (cond b (direct_of p (i - some p.head)) (cond c (Ok (InStore p.bounce p.tail)) (Err TooMuch))))
+        → Lies p (cond a (Ok (InStore 0 p.head)) (cond b (Ok (direct_of p (i - some p.head))) (cond c (Ok (InStore p.bounce p.tail)) (Err TooMuch))))
     go true b e c = inl (refl, refl)
     go false true e c =
         let h = ltb-true (i - some p.head) (directs p.middle) e in (omega arith, (omega arith, (omega arith, (omega arith, omega arith))))
     go false false e true = inr (refl, refl)
     go false false e false = tt
-
-never : {e : DmaBufError} → Err e ≡ (Ok tt) → ⊥
-never h = let z : ◌≡◌ {A = ℕ} 0 1 = cc in omega arith
 
 abbrev chosen : Bool → Bool → Bool → Bool → Answer Unit
 chosen many held room past =
@@ -62,11 +58,11 @@ ready held n address len chip store h = go (ltb limit n) refl held refl (leb (2 
   where
     go : (a : Bool) → ltb limit n ≡ a → (b : Bool) → held ≡ b → (c : Bool) → leb (2 * bounce_of chip) store ≡ c → (d : Bool) → ltb top (address + len) ≡ d
         → chosen a b c d ≡ (Ok tt) → (held ≡ true) × Ready n address len chip store
-    go true p b q c r d t h = absurd (never h)
-    go false p true q true r true t h = absurd (never h)
+    go true p b q c r d t h = absurd (cc)
+    go false p true q true r true t h = absurd (cc)
     go false p true q true r false t h = (q, record { few = ltb-false limit n p; room = leb-true (2 * bounce_of chip) store r; below = ltb-false top (address + len) t })
-    go false p true q false r d t h = absurd (never h)
-    go false p false q c r d t h = absurd (never h)
+    go false p true q false r d t h = absurd (cc)
+    go false p false q c r d t h = absurd (cc)
 
 -- a plan of a range that ends by the last address
 pub bytes_le : (n address len : ℕ) (chip : Chip) (store : ℕ) → Ready n address len chip store → bytes_of (plan_for chip address len) ≤ top

@@ -28,7 +28,7 @@ pub head-piece : (p : Plan) (i : ℕ) → i < some p.head → piece_of p i ≡ O
 unfolding piece_of
 head-piece p i h = rw (lt-ltb i (some p.head) h)
 
-pub direct-piece : (p : Plan) (i : ℕ) → some p.head ≤ i → i < some p.head + directs p.middle → piece_of p i ≡ direct_of p (i - some p.head)
+pub direct-piece : (p : Plan) (i : ℕ) → some p.head ≤ i → i < some p.head + directs p.middle → piece_of p i ≡ Ok (direct_of p (i - some p.head))
 unfolding piece_of
 direct-piece p i h l = rw (le-ltb i (some p.head) h, lt-ltb (i - some p.head) (directs p.middle) (omega arith))
 

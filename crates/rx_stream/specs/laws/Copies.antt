@@ -1,7 +1,7 @@
 -- A piece of the CPU-owned run, copied over the front of what is left of a destination.
-use Rattle.std.specs.Prelude.{◌≡◌, ℕ, ◌+◌, ◌-◌, ◌<◌, ◌≤◌, Bool, true, false, cond, List, [], ◌++◌, length, take, drop, ◌≢◌, nat_le, nat_lt, refl}
+use Rattle.std.specs.Prelude.{◌≡◌, ℕ, ◌+◌, ◌-◌, ◌<◌, ◌≤◌, Bool, true, false, cond, List, [], ◌++◌, length, take, drop, min, ◌≢◌, nat_le, nat_lt, refl}
 use Rattle.std.proofs.Math.Path.{sym, ap}
-use Rattle.std.proofs.Common.{◌∙◌, arith, ltb-true, ltb-false, lt-ltb, le-leb}
+use Rattle.std.proofs.Common.{◌∙◌, arith, ltb-true, lt-ltb, le-leb}
 use Rattle.std.proofs.Math.Seq.{paste, drop-nil}
 use Rattle.descriptors.specs.Record.{limit, record_in, is_cpu}
 use Rattle.descriptors.specs.Cells.{records_of, record_at, start_at}
@@ -12,7 +12,7 @@ use Rattle.descriptors.specs.declared.record.DmaDescriptor.{DmaDescriptor}
 use Rattle.descriptors.specs.declared.record.TransferDirection.TheVariants.{In}
 use Rattle.descriptors.specs.declared.ring.Head.{Head}
 use Rattle.rx_stream.specs.Receive.{over}
-use Rattle.rx_stream.specs.Pieces.{piece_of, nothing, least, wrapped}
+use Rattle.rx_stream.specs.Pieces.{piece_of, nothing, wrapped}
 use Rattle.rx_stream.specs.declared.piece.Piece.{Piece}
 use Rattle.rx_stream.specs.laws.Lists.{put-more, put_full, put-none}
 use Rattle.rx_stream.specs.laws.Flats.{cells-like, piece-like, piece-stop}
@@ -34,19 +34,8 @@ record Reach (n i left k : ℕ) : Type 0 where
   last : i + k ≤ n
   few : k ≤ left
 
-reach : (n i left : ℕ) → i < n → 0 < left → Reach n i left (least n (i + left) - i)
-reach n i left h l = go (nat_lt n (i + left)) refl
-  where
-    go : (b : Bool) → nat_lt n (i + left) ≡ b → Reach n i left (cond b n (i + left) - i)
-    go true e = let m = ltb-true n (i + left) e in record { some = omega arith; last = omega arith; few = omega arith }
-    go false e = let m = ltb-false n (i + left) e in record { some = omega arith; last = omega arith; few = omega arith }
-
-least-le : (a b c : ℕ) → a ≤ c → least a b ≤ c
-least-le a b c h = go (nat_lt a b) refl
-  where
-    go : (t : Bool) → nat_lt a b ≡ t → cond t a b ≤ c
-    go true e = h
-    go false e = omega (arith, ltb-false a b e)
+reach : (n i left : ℕ) → i < n → 0 < left → Reach n i left (min n (i + left) - i)
+reach n i left h l = record { some = omega arith; last = omega arith; few = omega arith }
 
 -- what is left to copy from byte o of record i on
 abbrev pub todo : List ℕ → List ℕ → Head → List ℕ → ℕ → ℕ → ℕ → List ℕ
@@ -72,9 +61,9 @@ module _ (st ws : List ℕ) (h : Head) (src : List ℕ) (ok : sound In (ring_of 
   lay = layout In (ring_of st ws h) (length src) (known st ws h (length src) ok)
 
   module _ (o want left i : ℕ) (place : i < h.count) (some : 0 < left) (offset : o ≤ (record_in (records_of st ws) i).length)
-      (p : Piece) (is : p ≡ cond (nat_le (least h.count (i + left)) limit) (piece_of (record_at [] ws) o want (least h.count (i + left) - i) i) nothing) where
+      (p : Piece) (is : p ≡ cond (nat_le (min h.count (i + left)) limit) (piece_of (record_at [] ws) o want (min h.count (i + left) - i) i) nothing) where
     k : ℕ
-    k = least h.count (i + left) - i
+    k = min h.count (i + left) - i
 
     f : ℕ → DmaDescriptor
     f = record_in (records_of st ws)
@@ -87,7 +76,7 @@ module _ (st ws : List ℕ) (h : Head) (src : List ℕ) (ok : sound In (ring_of 
     unfolding k f
     piece =
         is
-        ∙ ap (λ (b : Bool). cond b (piece_of (record_at [] ws) o want k i) nothing) (le-leb (least h.count (i + left)) limit (least-le h.count (i + left) limit (known st ws h (length src) ok).split.parts.many))
+        ∙ ap (λ (b : Bool). cond b (piece_of (record_at [] ws) o want k i) nothing) (le-leb (min h.count (i + left)) limit (omega (arith, (known st ws h (length src) ok).split.parts.many)))
         ∙ piece-like (record_at [] ws) (record_in (records_of st ws)) (cells-like st ws (held st ws h (length src) ok)) o want k i
 
     start : start_at st i ≡ (f i).buffer

@@ -15,10 +15,11 @@ use Rattle.descriptors.specs.laws.Sound.{Facts, facts, split-facts, split-record
 use Rattle.descriptors.specs.laws.Tests.{not-both}
 use Rattle.descriptors.specs.declared.record.TransferDirection.TheVariants.{In}
 use Rattle.descriptors.specs.declared.refusal.DmaBufError.{DmaBufError}
+use Rattle.descriptors.specs.declared.refusal.DmaBufError.TheVariants.{BadState}
 use Rattle.descriptors.specs.declared.ring.Head.{Head}
 use Rattle.descriptors.specs.declared.walk.Moved.{Moved}
 use Rattle.rx_stream.specs.Receive.{idle}
-use Rattle.rx_stream.specs.Faces.{step_in, taken_by}
+use Rattle.rx_stream.specs.Faces.{step_in, moved_by, took_by}
 use Rattle.descriptors.specs.Refusal.{Answer}
 use Rattle.rx_stream.specs.laws.Flats.{cells-like}
 
@@ -26,9 +27,9 @@ pub tally-wraps : (a b : ℕ) → (a + b % 4294967296) % 2 ^ 32 ≡ (a + b) % 2 
 tally-wraps a b = omega arith
 
 -- what a refusal of the judge tells
-pub unsound : (b : Bool) {d : (Answer Unit)} {e : DmaBufError} → d ≡ judged b → d ≡ Err e → b ≡ false
-unsound true p q = not-both (let z : judged true ≡ Err _ = sym p ∙ q in cc)
-unsound false p q = refl
+pub unsound : (b : Bool) {d : Answer Unit} {e : DmaBufError} → d ≡ judged b → d ≡ Err e → (b ≡ false) × (e ≡ BadState)
+unsound true {e = e} p q = not-both (let z : judged true ≡ Err e = sym p ∙ q in cc)
+unsound false {e = e} p q = (refl, (let z : judged false ≡ Err e = sym p ∙ q in cc))
 
 -- the words of a sound ring
 module _ (st ws : List ℕ) (h : Head) (len : ℕ) (s : sound In (ring_of st ws h) len ≡ true) where
@@ -53,11 +54,13 @@ module _ (st ws : List ℕ) (h : Head) (len : ℕ) (s : sound In (ring_of st ws 
       ∙ hand_in In h.count g h.descriptor_idx ws (planned-few In (ring_of st ws h) k known.split.parts.many)
       ∙ cells_are st ws (turns (hand_cells In h.count) h.count g h.descriptor_idx ws) _ held b.0 b.1
 
-  -- and what is then reported
-  pub taken-head : (k : ℕ) → taken_by h k (step_in ws h k)
-      ≡ record { head = head_of (advanced In (ring_of st ws h) k); taken = taken_in In (ring_of st ws h) k; back = (planned In (ring_of st ws h) k).back }
+  -- the head then, and what is reported
+  pub moved-head : (k : ℕ) → moved_by h k (step_in ws h k) ≡ head_of (advanced In (ring_of st ws h) k)
   unfolding moved_to
-  taken-head k = ap (taken_by h k) (step-planned k)
+  moved-head k = ap (moved_by h k) (step-planned k)
+
+  pub took-known : (k : ℕ) → took_by k (step_in ws h k) ≡ record { taken = taken_in In (ring_of st ws h) k; back = (planned In (ring_of st ws h) k).back }
+  took-known k = ap (took_by k) (step-planned k)
 
   -- the offset is one of the run's bytes
   pub offset-run : h.descriptor_offset ≤ run_bytes In (record_in (records_of st ws)) h.count h.count h.descriptor_idx

@@ -5,7 +5,7 @@ use Rattle.std.proofs.Math.Path.{ap}
 use Rattle.descriptors.specs.Record.{limit, record_in}
 use Rattle.descriptors.specs.Place.{turns}
 use Rattle.descriptors.specs.Cells.{are_records, records_of, record_at, start_at, cells_now}
-use Rattle.descriptors.specs.Ring.{ring_of, head_of, refused, sound}
+use Rattle.descriptors.specs.Ring.{Outcome, ring_of, head_of, refused, sound}
 use Rattle.descriptors.specs.Walk.{available_in, hand_over, planned, moved_to, advanced}
 use Rattle.descriptors.specs.laws.Lifts.{record_is}
 use Rattle.descriptors.specs.laws.Words.{cells_are, cells_same}
@@ -17,9 +17,9 @@ use Rattle.descriptors.specs.declared.record.TransferDirection.TheVariants.{Out}
 use Rattle.descriptors.specs.declared.refusal.DmaBufError.TheVariants.{TooMuch}
 use Rattle.descriptors.specs.declared.ring.Head.{Head}
 use Rattle.descriptors.specs.declared.walk.Moved.{Moved}
+use Rattle.descriptors.specs.Refusal.{Answer}
 use Rattle.tx_stream.specs.Transmit.{accepted_up_to, write_at}
-use Rattle.tx_stream.specs.Faces.{accepting_of, room_of, walked, filled_cells, filled_head}
-use Rattle.tx_stream.specs.declared.answer.Accepting.{Accepting}
+use Rattle.tx_stream.specs.Faces.{room_of, walked, filled_cells, filled_head}
 
 module _ (st ws : List ℕ) (h : Head) (len : ℕ) (s : sound Out (ring_of st ws h) len ≡ true) where
   pub held : are_records st ws ≡ true
@@ -66,16 +66,18 @@ module _ (st ws : List ℕ) (h : Head) (len : ℕ) (s : sound Out (ring_of st ws
       (b.1 ∙ ap (λ (m : Moved). turns (hand_over Out h.count) h.count m.back i (records_of st ws)) (walked-is k))
 
   -- what is accepted up to a bound
+  abbrev taken : Bool → ℕ → Outcome (Answer ℕ)
+  taken t k = cond t (record { ring = advanced Out (ring_of st ws h) k; answer = Ok k }) (refused (ring_of st ws h) (Err TooMuch))
+
   pub up_to : (b bound k : ℕ) → b ≡ bound
       → (cond (nat_le k b) (filled_cells ws h k) ws ≡ cells_now st ws (accepted_up_to bound (ring_of st ws h) len k).ring.descriptors)
-      × (◌≡◌ {A = Accepting} (cond (nat_le k b) (record { head = filled_head ws h k; answer = Ok k }) (record { head = h; answer = Err TooMuch }))
-      (accepting_of (accepted_up_to bound (ring_of st ws h) len k)))
+      × (cond (nat_le k b) (filled_head ws h k) h ≡ head_of (accepted_up_to bound (ring_of st ws h) len k).ring)
+      × (◌≡◌ {A = Answer ℕ} (cond (nat_le k b) (Ok k) (Err TooMuch)) (accepted_up_to bound (ring_of st ws h) len k).answer)
   up_to b bound k e = rw (e, s) (go (nat_le k bound))
     where
       go : (t : Bool)
-          → (cond t (filled_cells ws h k) ws
-          ≡ cells_now st ws (cond t (record { ring = advanced Out (ring_of st ws h) k; answer = Ok k }) (refused (ring_of st ws h) (Err TooMuch))).ring.descriptors)
-          × (◌≡◌ {A = Accepting} (cond t (record { head = filled_head ws h k; answer = Ok k }) (record { head = h; answer = Err TooMuch }))
-          (accepting_of (cond t (record { ring = advanced Out (ring_of st ws h) k; answer = Ok k }) (refused (ring_of st ws h) (Err TooMuch)))))
-      go true = (filled-cells k, ap (λ (x : Head). record { head = x; answer = Ok k }) (filled-head k))
-      go false = (cells_same st ws, refl)
+          → (cond t (filled_cells ws h k) ws ≡ cells_now st ws (taken t k).ring.descriptors)
+          × (cond t (filled_head ws h k) h ≡ head_of (taken t k).ring)
+          × (◌≡◌ {A = Answer ℕ} (cond t (Ok k) (Err TooMuch)) (taken t k).answer)
+      go true = (filled-cells k, filled-head k, refl)
+      go false = (cells_same st ws, refl, refl)

@@ -8,7 +8,7 @@ use Rattle.std.proofs.lemmas.List.{set-get_or}
 use Rattle.descriptors.specs.Record.{blank, record_in, update, up_to, with_owner, with_length, with_eof, with_next}
 use Rattle.descriptors.specs.Cells.{cell, are_records, records_of, record_at, cells_now, put_length, put_eof, put_owner, put_next}
 use Rattle.descriptors.specs.Stores.{link_cells}
-use Rattle.descriptors.specs.Ring.{ring_of, split_sound, linked_all}
+use Rattle.descriptors.specs.Ring.{ring_of, head_of, split_sound, linked_all}
 use Rattle.descriptors.specs.laws.Updates.{up_none, up_more}
 use Rattle.descriptors.specs.laws.Lifts.{Lifts, record_is, length-lifts, eof-lifts, owner-lifts, next-lifts, lifts-then, lifts-up}
 use Rattle.descriptors.specs.laws.Stores.{lifts-more, all-linked}
@@ -19,9 +19,8 @@ use Rattle.descriptors.specs.declared.record.Owner.TheVariants.{Cpu}
 use Rattle.descriptors.specs.declared.record.DmaDescriptor.{DmaDescriptor}
 use Rattle.descriptors.specs.declared.record.TransferDirection.TheVariants.{Out}
 use Rattle.descriptors.specs.declared.ring.Head.{Head}
-use Rattle.descriptors.specs.declared.ring.Headed.{Headed}
 use Rattle.tx_stream.specs.Transmit.{Reached, reached, filled, filled_to, cut, cut_at, Marked, marked_at, marked_ready, prepare_of}
-use Rattle.tx_stream.specs.Faces.{headed_of, fill_cells, cut_cells, marked_cells_at, marked_cells, cursor_at, marked_cursor}
+use Rattle.tx_stream.specs.Faces.{fill_cells, cut_cells, marked_cells_at, marked_cells, cursor_at, marked_cursor}
 use Rattle.tx_stream.specs.laws.Rules.{prepare-yes}
 use Rattle.tx_stream.specs.declared.prepare.Cursor.{Cursor}
 
@@ -187,8 +186,8 @@ module _ (st ws : List ℕ) (h : Head) (len : ℕ) (s : split_sound (ring_of st 
   linked_cells = up_to (link_cells Out h.count) h.count ws
 
   pub prepared : (marked_cells h.count h.pre_filled (up_to (link_cells Out h.count) h.count ws) ≡ cells_now st ws (prepare_of (ring_of st ws h) len).ring.descriptors)
-      × (◌≡◌ {A = Headed} (record { head = prepared_head h (marked_cursor h.count h.pre_filled (up_to (link_cells Out h.count) h.count ws)); answer = Ok tt })
-      (headed_of (prepare_of (ring_of st ws h) len)))
+      × (prepared_head h (marked_cursor h.count h.pre_filled (up_to (link_cells Out h.count) h.count ws)) ≡ head_of (prepare_of (ring_of st ws h) len).ring)
+      × (Ok tt ≡ (prepare_of (ring_of st ws h) len).answer)
   prepared =
       let n : ℕ = h.count in
       let b : ℕ = h.pre_filled in
@@ -199,7 +198,8 @@ module _ (st ws : List ℕ) (h : Head) (len : ℕ) (s : split_sound (ring_of st 
       let q : marked_ready n b (records_of st vs) ≡ marked_ready n b (linked_all Out n (records_of st ws)) = ap (marked_ready n b) l.1 in
       rw (prepare-yes (ring_of st ws h) len s) (
         cells_are st ws (marked_cells n b vs) _ a m.whole (m.shown ∙ ap (λ (k : Marked). k.descriptors) q),
-        ap (λ (c : Cursor). record { head = prepared_head h c; answer = Ok tt }) (m.cursor ∙ ap (λ (k : Marked). record { at = k.at; offset = k.offset }) q),
+        ap (prepared_head h) (m.cursor ∙ ap (λ (k : Marked). record { at = k.at; offset = k.offset }) q),
+        refl,
       )
 
 -- ---- the cases of `mark_tx_stream_descriptors_ready`

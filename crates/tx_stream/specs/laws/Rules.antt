@@ -1,6 +1,6 @@
 -- Each rule where the ring is refused, and where it is sound; and what the judge's answer tells of it.
 use Rattle.std.specs.Prelude.{◌≡◌, ℕ, ◌+◌, ◌-◌, ◌%◌, ◌^◌, min, Bool, true, false, List, [], length, take, drop, nat_le, refl, Ok, Err}
-use Rattle.std.proofs.Common.{sym, ◌∙◌, ap, arith}
+use Rattle.std.proofs.Common.{sym, ◌∙◌, arith}
 use Rattle.std.proofs.Math.Seq.{paste}
 use Rattle.std.specs.Borrow.{Bor}
 use Rattle.descriptors.specs.Ring.{Ring, refused, sound, split_sound, judged}
@@ -14,18 +14,12 @@ use Rattle.tx_stream.specs.Transmit.{prefilled_by, prefill_of, prefill_into, pre
 use Rattle.descriptors.specs.Part.{part_from}
 use Rattle.descriptors.specs.laws.Parts.{front-place}
 use Rattle.descriptors.specs.Refusal.{Answer}
-use Rattle.tx_stream.specs.Faces.{counted_of, prefill_place, offer_place}
+use Rattle.tx_stream.specs.Faces.{prefill_place, offer_place}
 
 -- what the judge refuses is not sound, and the refusal is 5
-pub unsound : (b : Bool) (d : Answer Unit) (e : DmaBufError) → d ≡ judged b → d ≡ Err e → b ≡ false
+pub unsound : (b : Bool) (d : Answer Unit) (e : DmaBufError) → d ≡ judged b → d ≡ Err e → (b ≡ false) × (e ≡ BadState)
 unsound true d e p q = not-both (let z : judged true ≡ Err e = sym p ∙ q in cc)
-unsound false d e p q = refl
-
-pub bad-state : (b : Bool) (d : Answer Unit) → d ≡ judged b → b ≡ false → counted_of d ≡ Err BadState
-bad-state b d p e = ap counted_of (p ∙ ap judged e)
-
-pub bad-done : (b : Bool) (d : Answer Unit) → d ≡ judged b → b ≡ false → d ≡ Err BadState
-bad-done b d p e = p ∙ ap judged e
+unsound false d e p q = let z : judged false ≡ Err e = sym p ∙ q in (refl, cc)
 
 -- ---- before `prepare`
 

@@ -1,5 +1,5 @@
 use Rattle.psram.specs.Piece.{piece_of}
-use mathlib.Core.Path.{sym, ◌∙◌}
+use mathlib.Core.Path.{sym}
 use borrow.Author.Tests.{lt-ltb, le-ltb}
 use Rattle.psram.proofs.piece.piece_at.Goals as goal
 
@@ -9,7 +9,7 @@ returns-then-i-ahead c = sym (simp (sym c.some-ahead.ensures, lt-ltb _ _ c.if-i-
 
 pub returns-then-j-between : goal.returns-then-j-between
 unfolding piece_of
-returns-then-j-between c = c.direct.ensures ∙ sym (simp (sym c.some-ahead.ensures, le-ltb _ _ c.if-i-ahead.false, sym c.directs-between.ensures, lt-ltb _ _ c.if-j-between.true))
+returns-then-j-between c = sym (simp (sym c.direct.ensures, sym c.some-ahead.ensures, le-ltb _ _ c.if-i-ahead.false, sym c.directs-between.ensures, lt-ltb _ _ c.if-j-between.true))
 
 pub returns-then-j-between-2 : goal.returns-then-j-between-2
 unfolding piece_of

@@ -1,7 +1,6 @@
 use Rattle.psram.specs.laws.Parts.{sides}
-use Rattle.descriptors.specs.Record.{limit}
-use lib.Dec.{ltb, leb}
-use mathlib.Core.Bool.{true, false}
+use lib.Dec.{leb}
+use mathlib.Core.Bool.{true}
 use mathlib.Core.Path.{◌≡◌, sym, ◌∙◌}
 use Prim.Native.Nat.{◌*◌, ◌<◌, ◌≤◌}
 use Rattle.psram.specs.Cut.{bounce_of}

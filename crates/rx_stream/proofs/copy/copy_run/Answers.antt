@@ -30,7 +30,7 @@ returns-then-p-eq0 c =
     let found_at : let a = c.args in Found a.s.now a.w.now a.h a.src.now c.loop-left.offset (length a.dst.now - c.loop-left.done) c.loop-left.left c.loop-left.at c.piece_of-p.result = let a = c.args in
     let want = length a.dst.now - c.loop-left.done in
     found a.s.now a.w.now a.h a.src.now c.requires c.loop-left.offset want c.loop-left.left c.loop-left.at c.loop-left.invariant.0 (omega arith) c.loop-left.invariant.2 c.piece_of-p.result
-    (c.piece_of-p.ensures ∙ ap (λ (e : ℕ). cond (leb e limit) (piece_of (record_at [] a.w.now) c.loop-left.offset want (e - c.loop-left.at) c.loop-left.at) nothing) c.least-end.ensures) in
+    (c.piece_of-p.ensures ∙ ap (λ (e : ℕ). cond (leb e limit) (piece_of (record_at [] a.w.now) c.loop-left.offset want (e - c.loop-left.at) c.loop-left.at) nothing) c.min-end.ensures) in
     let a = c.args in
     found_at.none c.if-p-eq0.true c.loop-left.dst c.loop-left.done ∙ c.loop-left.invariant.6
 
@@ -39,7 +39,7 @@ overflow_add-start c =
     let found_at : let a = c.args in Found a.s.now a.w.now a.h a.src.now c.loop-left.offset (length a.dst.now - c.loop-left.done) c.loop-left.left c.loop-left.at c.piece_of-p.result = let a = c.args in
     let want = length a.dst.now - c.loop-left.done in
     found a.s.now a.w.now a.h a.src.now c.requires c.loop-left.offset want c.loop-left.left c.loop-left.at c.loop-left.invariant.0 (omega arith) c.loop-left.invariant.2 c.piece_of-p.result
-    (c.piece_of-p.ensures ∙ ap (λ (e : ℕ). cond (leb e limit) (piece_of (record_at [] a.w.now) c.loop-left.offset want (e - c.loop-left.at) c.loop-left.at) nothing) c.least-end.ensures) in
+    (c.piece_of-p.ensures ∙ ap (λ (e : ℕ). cond (leb e limit) (piece_of (record_at [] a.w.now) c.loop-left.offset want (e - c.loop-left.at) c.loop-left.at) nothing) c.min-end.ensures) in
     let a = c.args in
     omega (arith, found_at.inside, c.start_of.ensures, c.well_formed)
 
@@ -48,7 +48,7 @@ copy_part-requires c =
     let found_at : let a = c.args in Found a.s.now a.w.now a.h a.src.now c.loop-left.offset (length a.dst.now - c.loop-left.done) c.loop-left.left c.loop-left.at c.piece_of-p.result = let a = c.args in
     let want = length a.dst.now - c.loop-left.done in
     found a.s.now a.w.now a.h a.src.now c.requires c.loop-left.offset want c.loop-left.left c.loop-left.at c.loop-left.invariant.0 (omega arith) c.loop-left.invariant.2 c.piece_of-p.result
-    (c.piece_of-p.ensures ∙ ap (λ (e : ℕ). cond (leb e limit) (piece_of (record_at [] a.w.now) c.loop-left.offset want (e - c.loop-left.at) c.loop-left.at) nothing) c.least-end.ensures) in
+    (c.piece_of-p.ensures ∙ ap (λ (e : ℕ). cond (leb e limit) (piece_of (record_at [] a.w.now) c.loop-left.offset want (e - c.loop-left.at) c.loop-left.at) nothing) c.min-end.ensures) in
     let a = c.args in
     (omega (arith, found_at.inside, c.start_of.ensures, c.if-want-p.true), omega (arith, c.loop-left.invariant.3, c.loop-left.invariant.5))
 
@@ -58,7 +58,7 @@ returns-then-want-p c =
     let found_at : let a = c.args in Found a.s.now a.w.now a.h a.src.now c.loop-left.offset (length a.dst.now - c.loop-left.done) c.loop-left.left c.loop-left.at c.piece_of-p.result = let a = c.args in
     let want = length a.dst.now - c.loop-left.done in
     found a.s.now a.w.now a.h a.src.now c.requires c.loop-left.offset want c.loop-left.left c.loop-left.at c.loop-left.invariant.0 (omega arith) c.loop-left.invariant.2 c.piece_of-p.result
-    (c.piece_of-p.ensures ∙ ap (λ (e : ℕ). cond (leb e limit) (piece_of (record_at [] a.w.now) c.loop-left.offset want (e - c.loop-left.at) c.loop-left.at) nothing) c.least-end.ensures) in
+    (c.piece_of-p.ensures ∙ ap (λ (e : ℕ). cond (leb e limit) (piece_of (record_at [] a.w.now) c.loop-left.offset want (e - c.loop-left.at) c.loop-left.at) nothing) c.min-end.ensures) in
     let a = c.args in
     c.copy_part.ensures
     ∙ ap (λ (x : ℕ). paste c.loop-left.dst c.loop-left.done (drop (x + c.loop-left.offset) a.src.now) (length a.dst.now - c.loop-left.done)) c.start_of.ensures
@@ -70,7 +70,7 @@ copy_part-requires-in-loop-left c =
     let found_at : let a = c.args in Found a.s.now a.w.now a.h a.src.now c.loop-left.offset (length a.dst.now - c.loop-left.done) c.loop-left.left c.loop-left.at c.piece_of-p.result = let a = c.args in
     let want = length a.dst.now - c.loop-left.done in
     found a.s.now a.w.now a.h a.src.now c.requires c.loop-left.offset want c.loop-left.left c.loop-left.at c.loop-left.invariant.0 (omega arith) c.loop-left.invariant.2 c.piece_of-p.result
-    (c.piece_of-p.ensures ∙ ap (λ (e : ℕ). cond (leb e limit) (piece_of (record_at [] a.w.now) c.loop-left.offset want (e - c.loop-left.at) c.loop-left.at) nothing) c.least-end.ensures) in
+    (c.piece_of-p.ensures ∙ ap (λ (e : ℕ). cond (leb e limit) (piece_of (record_at [] a.w.now) c.loop-left.offset want (e - c.loop-left.at) c.loop-left.at) nothing) c.min-end.ensures) in
     let a = c.args in
     (omega (arith, found_at.inside, c.start_of.ensures), omega (arith, c.loop-left.invariant.3, c.loop-left.invariant.5, c.if-want-p.false))
 
@@ -85,7 +85,7 @@ overflow_add-at-in-loop-left c =
     let found_at : let a = c.args in Found a.s.now a.w.now a.h a.src.now c.loop-left.offset (length a.dst.now - c.loop-left.done) c.loop-left.left c.loop-left.at c.piece_of-p.result = let a = c.args in
     let want = length a.dst.now - c.loop-left.done in
     found a.s.now a.w.now a.h a.src.now c.requires c.loop-left.offset want c.loop-left.left c.loop-left.at c.loop-left.invariant.0 (omega arith) c.loop-left.invariant.2 c.piece_of-p.result
-    (c.piece_of-p.ensures ∙ ap (λ (e : ℕ). cond (leb e limit) (piece_of (record_at [] a.w.now) c.loop-left.offset want (e - c.loop-left.at) c.loop-left.at) nothing) c.least-end.ensures) in
+    (c.piece_of-p.ensures ∙ ap (λ (e : ℕ). cond (leb e limit) (piece_of (record_at [] a.w.now) c.loop-left.offset want (e - c.loop-left.at) c.loop-left.at) nothing) c.min-end.ensures) in
     let a = c.args in
     omega (arith, many, found_at.few, c.loop-left.invariant.0, c.loop-left.invariant.1)
 
@@ -94,7 +94,7 @@ overflow_sub-left c =
     let found_at : let a = c.args in Found a.s.now a.w.now a.h a.src.now c.loop-left.offset (length a.dst.now - c.loop-left.done) c.loop-left.left c.loop-left.at c.piece_of-p.result = let a = c.args in
     let want = length a.dst.now - c.loop-left.done in
     found a.s.now a.w.now a.h a.src.now c.requires c.loop-left.offset want c.loop-left.left c.loop-left.at c.loop-left.invariant.0 (omega arith) c.loop-left.invariant.2 c.piece_of-p.result
-    (c.piece_of-p.ensures ∙ ap (λ (e : ℕ). cond (leb e limit) (piece_of (record_at [] a.w.now) c.loop-left.offset want (e - c.loop-left.at) c.loop-left.at) nothing) c.least-end.ensures) in
+    (c.piece_of-p.ensures ∙ ap (λ (e : ℕ). cond (leb e limit) (piece_of (record_at [] a.w.now) c.loop-left.offset want (e - c.loop-left.at) c.loop-left.at) nothing) c.min-end.ensures) in
     let a = c.args in
     found_at.few
 
@@ -103,7 +103,7 @@ loop-left-smaller c =
     let found_at : let a = c.args in Found a.s.now a.w.now a.h a.src.now c.loop-left.offset (length a.dst.now - c.loop-left.done) c.loop-left.left c.loop-left.at c.piece_of-p.result = let a = c.args in
     let want = length a.dst.now - c.loop-left.done in
     found a.s.now a.w.now a.h a.src.now c.requires c.loop-left.offset want c.loop-left.left c.loop-left.at c.loop-left.invariant.0 (omega arith) c.loop-left.invariant.2 c.piece_of-p.result
-    (c.piece_of-p.ensures ∙ ap (λ (e : ℕ). cond (leb e limit) (piece_of (record_at [] a.w.now) c.loop-left.offset want (e - c.loop-left.at) c.loop-left.at) nothing) c.least-end.ensures) in
+    (c.piece_of-p.ensures ∙ ap (λ (e : ℕ). cond (leb e limit) (piece_of (record_at [] a.w.now) c.loop-left.offset want (e - c.loop-left.at) c.loop-left.at) nothing) c.min-end.ensures) in
     let a = c.args in
     omega (arith, found_at.few, c.if-p-eq0.false)
 
@@ -112,7 +112,7 @@ loop-left-preserved c =
     let found_at : let a = c.args in Found a.s.now a.w.now a.h a.src.now c.loop-left.offset (length a.dst.now - c.loop-left.done) c.loop-left.left c.loop-left.at c.piece_of-p.result = let a = c.args in
     let want = length a.dst.now - c.loop-left.done in
     found a.s.now a.w.now a.h a.src.now c.requires c.loop-left.offset want c.loop-left.left c.loop-left.at c.loop-left.invariant.0 (omega arith) c.loop-left.invariant.2 c.piece_of-p.result
-    (c.piece_of-p.ensures ∙ ap (λ (e : ℕ). cond (leb e limit) (piece_of (record_at [] a.w.now) c.loop-left.offset want (e - c.loop-left.at) c.loop-left.at) nothing) c.least-end.ensures) in
+    (c.piece_of-p.ensures ∙ ap (λ (e : ℕ). cond (leb e limit) (piece_of (record_at [] a.w.now) c.loop-left.offset want (e - c.loop-left.at) c.loop-left.at) nothing) c.min-end.ensures) in
     let a = c.args in (
       rw c.wrapped-at.ensures (wrapped-lt a.h.count (c.loop-left.at + c.piece_of-p.result.records) (omega (arith, c.loop-left.invariant.0))),
       omega (arith, c.loop-left.invariant.1),

@@ -11,7 +11,7 @@ returns-then-n-gt-LIMIT c = sym (rw (lt-leb _ _ c.if-n-gt-LIMIT.true))
 
 pub returns-then-not-is_cpu : goal.returns-then-not-is_cpu
 returns-then-not-is_cpu c =
-    let owned : is_cpu (record_at [] c.args.w.now c.loop-at.at).owner ≡ c.is_cpu.result = ap is_cpu (sym c.owner_of-owner.ensures) ∙ sym c.is_cpu.ensures in
+    let owned : is_cpu (record_at [] c.args.w.now c.loop-at.at).owner ≡ c.is_cpu.result = ap is_cpu (sym c.owner_of.ensures) ∙ sym c.is_cpu.ensures in
     let a = c.args in
     rw (le-leb _ _ c.if-n-gt-LIMIT.false)
     (omega (arith, c.loop-at.invariant.1, flat-stop a.until_eof (record_at [] a.w.now) (a.n - c.loop-at.at) c.loop-at.at (owned ∙ not-true _ c.if-not-is_cpu.true-raw)))
@@ -21,14 +21,14 @@ overflow_add-total c = omega (arith, c.length_of-total.ensures.1, c.loop-at.inva
 
 pub returns-then-ends_with : goal.returns-then-ends_with
 returns-then-ends_with c =
-    let owned : is_cpu (record_at [] c.args.w.now c.loop-at.at).owner ≡ c.is_cpu.result = ap is_cpu (sym c.owner_of-owner.ensures) ∙ sym c.is_cpu.ensures in
+    let owned : is_cpu (record_at [] c.args.w.now c.loop-at.at).owner ≡ c.is_cpu.result = ap is_cpu (sym c.owner_of.ensures) ∙ sym c.is_cpu.ensures in
     let a = c.args in
     rw (le-leb _ _ c.if-n-gt-LIMIT.false)
     (omega (arith, c.loop-at.invariant.1, c.length_of-total.ensures.0, flat-ends a.until_eof (record_at [] a.w.now) (a.n - c.loop-at.at) c.loop-at.at (omega arith) (owned ∙ not-false _ c.if-not-is_cpu.false-raw) (sym c.ends_with.ensures ∙ c.if-ends_with.true)))
 
 pub loop-at-preserved : goal.loop-at-preserved
 loop-at-preserved c =
-    let owned : is_cpu (record_at [] c.args.w.now c.loop-at.at).owner ≡ c.is_cpu.result = ap is_cpu (sym c.owner_of-owner.ensures) ∙ sym c.is_cpu.ensures in
+    let owned : is_cpu (record_at [] c.args.w.now c.loop-at.at).owner ≡ c.is_cpu.result = ap is_cpu (sym c.owner_of.ensures) ∙ sym c.is_cpu.ensures in
     let a = c.args in
     let g = flat-go a.until_eof (record_at [] a.w.now) (a.n - c.loop-at.at) c.loop-at.at (omega arith) (owned ∙ not-false _ c.if-not-is_cpu.false-raw) (sym c.ends_with.ensures ∙ c.if-ends_with.false) in
     let less : a.n - (c.loop-at.at + 1) ≡ a.n - c.loop-at.at - 1 = omega arith in

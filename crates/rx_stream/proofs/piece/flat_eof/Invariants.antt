@@ -6,6 +6,3 @@ use Rattle.rx_stream.proofs.piece.flat_eof.Given as goal
 abbrev pub invariant-loop-at : goal.invariant-loop-at
 invariant-loop-at l =
     flat_eof (record_at [] l.w) (l.n - l.at) l.at ≡ flat_eof (record_at [] l.w) (l.n - l.i) l.i
-
-abbrev pub decreases-loop-at : goal.decreases-loop-at
-decreases-loop-at l = l.n - l.at

@@ -6,8 +6,5 @@ use Rattle.rx_stream.proofs.piece.piece_of.Given as goal
 
 abbrev pub invariant-loop-at : goal.invariant-loop-at
 invariant-loop-at l =
-    (l.bytes ≤ 65535 * l.records) × (l.at ≡ l.i + l.records)
-    × (grown l.bytes l.records (piece_of (record_at [] l.w) l.offset (l.want - l.bytes) (l.end - l.at) l.at) ≡ piece_of (record_at [] l.w) l.o l.want (l.end - l.i) l.i)
-
-abbrev pub decreases-loop-at : goal.decreases-loop-at
-decreases-loop-at l = l.end - l.at
+    (l.piece.bytes ≤ 65535 * l.piece.records) × (l.at ≡ l.i + l.piece.records)
+    × (grown l.piece.bytes l.piece.records (piece_of (record_at [] l.w) l.offset (l.want - l.piece.bytes) (l.end - l.at) l.at) ≡ piece_of (record_at [] l.w) l.o l.want (l.end - l.i) l.i)

@@ -1,61 +1,37 @@
-use Rattle.std.proofs.Common.{◌≡◌, ℕ, ◌-◌, min, true, false, List, ap, ◌∙◌, arith}
+use Rattle.std.proofs.lemmas.Result.{err_from_is_err_and}
+use Rattle.std.proofs.Common.{ℕ, ◌-◌, min, refl, ap, ◌∙◌, arith}
 use Rattle.descriptors.specs.Walk.{available_in}
+use Rattle.descriptors.specs.Ring.{ring_of}
+use Rattle.descriptors.specs.laws.Words.{cells_same}
+use Rattle.descriptors.specs.laws.Sound.{ready-split}
+use Rattle.descriptors.specs.declared.record.TransferDirection.TheVariants.{Out}
 use Rattle.tx_stream.specs.Transmit.{commit_of}
 use Rattle.tx_stream.specs.laws.Room.{offset-fits, place_in}
 use Rattle.tx_stream.specs.laws.Accepts.{room-is, place_is, up_to}
-use Rattle.tx_stream.specs.laws.Rules.{bad-state, commit-no}
-use Rattle.descriptors.specs.laws.Words.{cells_same}
-use Rattle.descriptors.specs.declared.record.TransferDirection.TheVariants.{Out}
-use Rattle.tx_stream.specs.laws.Rules.{unsound}
-use Rattle.descriptors.specs.laws.Sound.{ready-split}
-use Rattle.descriptors.specs.Ring.{Ring, ring_of, sound}
-use Rattle.descriptors.specs.declared.ring.Head.{Head}
-use Rattle.descriptors.specs.Refusal.{Answer}
+use Rattle.tx_stream.specs.laws.Rules.{unsound, commit-no}
 use Rattle.tx_stream.proofs.in_place.commit_in.Goals as goal
 
-pub returns-in_default : goal.returns-in_default
-returns-in_default c =
-    let st : List ℕ = c.args.s.now in
-    let ws : List ℕ = c.args.w.now in
-    let head : Head = c.args.h in
-    let size : ℕ = c.args.len in
-    let ring : Ring = ring_of st ws head in
-    let is-unsound : sound Out ring size ≡ false = unsound _ _ _ c.judge-answer.ensures c.in_default.is in
-    let count : ℕ = c.args.k in
-    let e = is-unsound in
-    rw (commit-no ring size e count) (record { w_after = cells_same st ws; value = c.refused.ensures ∙ ap (λ (x : Answer ℕ). record { head = head; answer = x }) (bad-state _ _ c.judge-answer.ensures e) })
+pub returns-in_err-judge : goal.returns-in_err-judge
+returns-in_err-judge c =
+    let p = err_from_is_err_and c.from_residual.result c.from_residual.ensures.1 in
+    let q = unsound _ _ _ c.judge.ensures c.in_err-judge.was in
+    rw (p.1, p.2, q.1, commit-no _ _ q.0 c.args.k) record { w_after = cells_same c.args.s.now c.args.w.now; h_after = refl; value = refl }
 
 pub write_position-at-requires : goal.write_position-at-requires
-write_position-at-requires c =
-    let size : ℕ = c.args.len in
-    let st : List ℕ = c.args.s.now in
-    let ws : List ℕ = c.args.w.now in
-    let head : Head = c.args.h in
-    let ring : Ring = ring_of st ws head in
-    let is-sound : sound Out ring size ≡ true = ready-split _ _ c.judge-answer.ensures c.in-Ready.is in
-    offset-fits ring size is-sound
+write_position-at-requires c = offset-fits _ _ (ready-split _ _ _ c.judge.ensures c.in_ok-judge.was)
 
 pub offered-part-requires : goal.offered-part-requires
 offered-part-requires c =
-    let st : List ℕ = c.args.s.now in
-    let ws : List ℕ = c.args.w.now in
-    let head : Head = c.args.h in
-    let size : ℕ = c.args.len in
-    let ring : Ring = ring_of st ws head in
-    let is-sound : sound Out ring size ≡ true = ready-split _ _ c.judge-answer.ensures c.in-Ready.is in
-    omega (arith, c.write_position-at.ensures ∙ place_is st ws head size is-sound, place_in ring size is-sound)
+    let a = c.args in
+    let sure = ready-split _ _ _ c.judge.ensures c.in_ok-judge.was in
+    omega (arith, c.write_position-at.ensures ∙ place_is a.s.now a.w.now a.h.now a.len sure, place_in _ _ sure)
 
 pub returns : goal.returns
 unfolding commit_of
 returns c =
-    let st : List ℕ = c.args.s.now in
-    let ws : List ℕ = c.args.w.now in
-    let head : Head = c.args.h in
-    let size : ℕ = c.args.len in
-    let ring : Ring = ring_of st ws head in
-    let is-sound : sound Out ring size ≡ true = ready-split _ _ c.judge-answer.ensures c.in-Ready.is in
-    let count : ℕ = c.args.k in
-    let e = c.offered-part.ensures ∙ ap (λ (a : ℕ). min a (size - c.write_position-at.result)) (room-is st ws head size is-sound)
-    ∙ ap (λ (p : ℕ). min (available_in Out ring) (size - p)) (c.write_position-at.ensures ∙ place_is st ws head size is-sound) in
-    let u = up_to st ws head size is-sound _ _ count e in
-    record { w_after = c.accept_up_to.ensures.0 ∙ u.0; value = c.accept_up_to.ensures.1 ∙ u.1 }
+    let a = c.args in
+    let sure = ready-split _ _ _ c.judge.ensures c.in_ok-judge.was in
+    let e = c.offered-part.ensures ∙ ap (λ (free : ℕ). min free (a.len - c.write_position-at.result)) (room-is a.s.now a.w.now a.h.now a.len sure)
+    ∙ ap (λ (p : ℕ). min (available_in Out (ring_of a.s.now a.w.now a.h.now)) (a.len - p)) (c.write_position-at.ensures ∙ place_is a.s.now a.w.now a.h.now a.len sure) in
+    let u = up_to a.s.now a.w.now a.h.now a.len sure _ _ a.k e in
+    record { w_after = c.accept_up_to.ensures.w_after ∙ u.0; h_after = c.accept_up_to.ensures.h_after ∙ u.1; value = c.accept_up_to.ensures.value ∙ u.2 }

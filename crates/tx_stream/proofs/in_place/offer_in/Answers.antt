@@ -20,7 +20,7 @@ returns-in_default c =
     let head : Head = c.args.h in
     let ring : Ring = ring_of st ws head in
     let size : ℕ = length c.args.buffer.now in
-    let is-unsound : sound Out ring size ≡ false = unsound _ _ _ c.judge-answer.ensures c.in_default.is in
+    let is-unsound : sound Out ring size ≡ false = (unsound _ _ _ c.judge.ensures c.in_default.is).0 in
     let lent : List ℕ = c.args.buffer.now in
     let e = is-unsound in
     record { result_value = sym (offer-no ring lent e); ref_ptr_value = sym (offer-place-no ring lent (as_read c.args.buffer) e) }
@@ -32,7 +32,7 @@ write_position-at-requires c =
     let ws : List ℕ = c.args.w.now in
     let head : Head = c.args.h in
     let ring : Ring = ring_of st ws head in
-    let is-sound : sound Out ring size ≡ true = ready-split _ _ c.judge-answer.ensures c.in-Ready.is in
+    let is-sound : sound Out ring size ≡ true = ready-split _ _ _ c.judge.ensures c.in-Ok.is in
     offset-fits ring size is-sound
 
 pub offered-requires : goal.offered-requires
@@ -42,7 +42,7 @@ offered-requires c =
     let ws : List ℕ = c.args.w.now in
     let head : Head = c.args.h in
     let ring : Ring = ring_of st ws head in
-    let is-sound : sound Out ring size ≡ true = ready-split _ _ c.judge-answer.ensures c.in-Ready.is in
+    let is-sound : sound Out ring size ≡ true = ready-split _ _ _ c.judge.ensures c.in-Ok.is in
     let place : c.write_position-at.result ≡ write_at ring = c.write_position-at.ensures ∙ place_is st ws head size is-sound in
     omega (arith, place, place_in ring size is-sound)
 
@@ -53,7 +53,7 @@ overflow_add-end c =
     let ws : List ℕ = c.args.w.now in
     let head : Head = c.args.h in
     let ring : Ring = ring_of st ws head in
-    let is-sound : sound Out ring size ≡ true = ready-split _ _ c.judge-answer.ensures c.in-Ready.is in
+    let is-sound : sound Out ring size ≡ true = ready-split _ _ _ c.judge.ensures c.in-Ok.is in
     let place : c.write_position-at.result ≡ write_at ring = c.write_position-at.ensures ∙ place_is st ws head size is-sound in
     let free : c.offered.result ≡ offered ring size = c.offered.ensures ∙ ap (λ (a : ℕ). min a (size - c.write_position-at.result)) (room-is st ws head size is-sound)
     ∙ ap (λ (p : ℕ). min (available_in Out ring) (size - p)) place in
@@ -66,7 +66,7 @@ slice_bounds-buffer-end c =
     let ws : List ℕ = c.args.w.now in
     let head : Head = c.args.h in
     let ring : Ring = ring_of st ws head in
-    let is-sound : sound Out ring size ≡ true = ready-split _ _ c.judge-answer.ensures c.in-Ready.is in
+    let is-sound : sound Out ring size ≡ true = ready-split _ _ _ c.judge.ensures c.in-Ok.is in
     let place : c.write_position-at.result ≡ write_at ring = c.write_position-at.ensures ∙ place_is st ws head size is-sound in
     let free : c.offered.result ≡ offered ring size = c.offered.ensures ∙ ap (λ (a : ℕ). min a (size - c.write_position-at.result)) (room-is st ws head size is-sound)
     ∙ ap (λ (p : ℕ). min (available_in Out ring) (size - p)) place in
@@ -79,7 +79,7 @@ returns c =
     let ws : List ℕ = c.args.w.now in
     let head : Head = c.args.h in
     let ring : Ring = ring_of st ws head in
-    let is-sound : sound Out ring size ≡ true = ready-split _ _ c.judge-answer.ensures c.in-Ready.is in
+    let is-sound : sound Out ring size ≡ true = ready-split _ _ _ c.judge.ensures c.in-Ok.is in
     let lent : List ℕ = c.args.buffer.now in
     let place : c.write_position-at.result ≡ write_at ring = c.write_position-at.ensures ∙ place_is st ws head size is-sound in
     let free : c.offered.result ≡ offered ring size = c.offered.ensures ∙ ap (λ (a : ℕ). min a (size - c.write_position-at.result)) (room-is st ws head size is-sound)

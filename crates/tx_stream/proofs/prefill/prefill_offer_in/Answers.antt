@@ -16,7 +16,7 @@ returns-in_default c =
     let head : Head = c.args.h in
     let ring : Ring = ring_of st ws head in
     let size : ℕ = length c.args.buffer.now in
-    let is-unsound : split_sound ring size ≡ false = unsound _ _ _ c.judge_split-answer.ensures c.in_default.is in
+    let is-unsound : split_sound ring size ≡ false = (unsound _ _ _ c.judge_split.ensures c.in_default.is).0 in
     let lent : List ℕ = c.args.buffer.now in
     let e = is-unsound in
     record { result_value = sym (prefill-offer-no ring lent e); ref_ptr_value = sym (prefill-place-no ring lent (as_read c.args.buffer) e) }
@@ -28,7 +28,7 @@ slice_bounds-result-count c =
     let ws : List ℕ = c.args.w.now in
     let head : Head = c.args.h in
     let ring : Ring = ring_of st ws head in
-    let is-sound : split_sound ring size ≡ true = ready-split _ _ c.judge_split-answer.ensures c.in-Ready.is in
+    let is-sound : split_sound ring size ≡ true = ready-split _ _ _ c.judge_split.ensures c.in-Ok.is in
     let fits : head.pre_filled ≤ size = (split-facts ring size is-sound).prefilled in
     fits
 
@@ -39,7 +39,7 @@ slice_bounds-buffer-start c =
     let ws : List ℕ = c.args.w.now in
     let head : Head = c.args.h in
     let ring : Ring = ring_of st ws head in
-    let is-sound : split_sound ring size ≡ true = ready-split _ _ c.judge_split-answer.ensures c.in-Ready.is in
+    let is-sound : split_sound ring size ≡ true = ready-split _ _ _ c.judge_split.ensures c.in-Ok.is in
     let fits : head.pre_filled ≤ size = (split-facts ring size is-sound).prefilled in
     fits
 
@@ -50,7 +50,7 @@ returns c =
     let st : List ℕ = c.args.s.now in
     let ws : List ℕ = c.args.w.now in
     let ring : Ring = ring_of st ws head in
-    let is-sound : split_sound ring size ≡ true = ready-split _ _ c.judge_split-answer.ensures c.in-Ready.is in
+    let is-sound : split_sound ring size ≡ true = ready-split _ _ _ c.judge_split.ensures c.in-Ok.is in
     let lent : List ℕ = c.args.buffer.now in
     record {
       result_value = take_all (size - head.pre_filled) (drop head.pre_filled lent) (omega (arith, length-drop head.pre_filled lent))

@@ -1,11 +1,8 @@
 use Rattle.tx_stream.specs.Transmit.{reached}
 use Rattle.descriptors.specs.Cells.{record_at}
-use Rattle.std.proofs.Common.{◌≡◌, ◌-◌, ◌≤◌, []}
+use Rattle.std.proofs.Common.{◌≡◌, ◌-◌, []}
 use Rattle.tx_stream.proofs.prepare.end_of.Given as goal
 
 abbrev pub invariant-loop-d : goal.invariant-loop-d
 invariant-loop-d l =
-    (l.d ≤ l.n) × (reached (record_at [] l.w) (l.n - l.d) l.d l.remaining ≡ reached (record_at [] l.w) l.n 0 l.bytes_pushed)
-
-abbrev pub decreases-loop-d : goal.decreases-loop-d
-decreases-loop-d l = l.n - l.d
+    reached (record_at [] l.w) (l.n - l.d) l.d l.remaining ≡ reached (record_at [] l.w) l.n 0 l.bytes_pushed

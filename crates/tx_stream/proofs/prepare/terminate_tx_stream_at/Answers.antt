@@ -6,11 +6,11 @@ use Rattle.tx_stream.proofs.prepare.terminate_tx_stream_at.Goals.{else-start-gt0
 use Rattle.tx_stream.proofs.prepare.terminate_tx_stream_at.Goals as goal
 
 pub loop-i-init : goal.loop-i-init
-loop-i-init c = (omega arith, c.requires, refl, λ vs e. e)
+loop-i-init c = (refl, λ vs e. e)
 
 pub loop-i-preserved : goal.loop-i-preserved
 loop-i-preserved c =
-    (omega arith, omega arith, search rules, λ vs e. c.set_owner.ensures ∙ cut-more _ c.loop-i.i vs c.loop-i.w (omega arith) (c.loop-i.invariant.3 vs e))
+    (search rules, λ vs e. c.set_owner.ensures ∙ cut-more _ c.loop-i.i vs c.loop-i.w (omega arith) (c.loop-i.invariant.1 vs e))
 
 pub returns : goal.returns
 returns c =
@@ -18,4 +18,4 @@ returns c =
     elim c.if-start-gt0.branch [ then-start-gt0 v ↦ v.w-is ∙ v.set_next.ensures ∙ cut-before a.start a.w.now v.if-start-gt0.true | else-start-gt0 v ↦ let z : a.start ≡ 0 = omega arith in v.w-is ∙ rw z (cut-first a.w.now) ] in
     let a = c.args in
     let z : c.loop-i.i ≡ a.n = omega arith in
-    rw z at (c.loop-i.invariant.3 a.w.now begun)
+    rw z at (c.loop-i.invariant.1 a.w.now begun)

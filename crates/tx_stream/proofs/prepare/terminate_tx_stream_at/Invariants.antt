@@ -1,11 +1,8 @@
 use Rattle.tx_stream.specs.Faces.{cut_cells}
 use Rattle.descriptors.specs.Record.{up_to}
-use Rattle.std.proofs.Common.{◌≡◌, ℕ, ◌-◌, ◌≤◌, List, length}
+use Rattle.std.proofs.Common.{◌≡◌, ℕ, List, length}
 use Rattle.tx_stream.proofs.prepare.terminate_tx_stream_at.Given as goal
 
 abbrev pub invariant-loop-i : goal.invariant-loop-i
 invariant-loop-i l =
-    (l.start ≤ l.i) × (l.i ≤ l.n) × (length l.w ≡ length l.initial.w) × ((vs : List ℕ) → l.initial.w ≡ up_to (cut_cells l.start) l.start vs → l.w ≡ up_to (cut_cells l.start) l.i vs)
-
-abbrev pub decreases-loop-i : goal.decreases-loop-i
-decreases-loop-i l = l.n - l.i
+    (length l.w ≡ length l.initial.w) × ((vs : List ℕ) → l.initial.w ≡ up_to (cut_cells l.start) l.start vs → l.w ≡ up_to (cut_cells l.start) l.i vs)

@@ -1,8 +1,5 @@
-use Rattle.tx_stream.specs.laws.Values.{built-by}
-use Rattle.std.proofs.Common.{length}
+use Rattle.std.proofs.Common.{refl}
 use Rattle.tx_stream.proofs.buf.DmaTxStreamBuf.new.Goals as goal
 
 pub returns : goal.returns
-returns c =
-    let a = c.args in
-    built-by a.starts a.cells _ _ a.n (length a.buffer.now) c.new_in-m.result c.new_in-m.ensures
+returns c = let p = c.new_in-answer.ensures in rw (p.starts, p.cells, p.head, p.answer) refl
