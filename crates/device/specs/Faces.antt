@@ -1,5 +1,5 @@
 -- What a step leaves in lent words and bytes, by the outcome that its rule has. The head stays as it is.
-use Rattle.std.specs.Prelude.{ℕ, ◌≡◌, Bool, List, length, Ok, Err, Option}
+use Rattle.std.specs.Prelude.{ℕ, ◌≡◌, Bool, List, length, Option}
 use Rattle.descriptors.specs.Cells.{cells_now, put_owner, put_eof, put_length}
 use Rattle.descriptors.specs.Ring.{ring_of}
 use Rattle.descriptors.specs.declared.record.Owner.TheVariants.{Cpu}

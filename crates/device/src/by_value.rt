@@ -27,11 +27,11 @@ pub fn receive_step(
     ensures value { result ≡ received_of ring (receive_of (ring_of ring.starts ring.cells ring.head) device (length buffer.old) (length incoming.now) eof) }
     ensures buffer_after { buffer.new ≡ receive_into (ring_of ring.starts ring.cells ring.head) device buffer.old incoming.now }
 {
-    let mut ring = ring;
+    let mut cells = ring.cells;
     let mut device = device;
     let answer = receive::receive_step_in(
         &ring.starts,
-        &mut ring.cells,
+        &mut cells,
         ring.head,
         &mut device,
         buffer,
@@ -39,7 +39,7 @@ pub fn receive_step(
         eof,
     );
     Step {
-        ring,
+        ring: DmaRxStreamBufView { cells, ..ring },
         device,
         answer,
     }
@@ -54,18 +54,18 @@ pub fn transmit_step(
     ensures value { result ≡ sent_of ring (transmit_of (ring_of ring.starts ring.cells ring.head) device (length buffer.now) (length out.old)) }
     ensures out_after { out.new ≡ transmit_over (ring_of ring.starts ring.cells ring.head) device buffer.now out.old }
 {
-    let mut ring = ring;
+    let mut cells = ring.cells;
     let mut device = device;
     let answer = transmit::transmit_step_in(
         &ring.starts,
-        &mut ring.cells,
+        &mut cells,
         ring.head,
         &mut device,
         buffer,
         out,
     );
     Step {
-        ring,
+        ring: DmaTxStreamBufView { cells, ..ring },
         device,
         answer,
     }
