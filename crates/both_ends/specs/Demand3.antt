@@ -3,14 +3,13 @@
 -- any order, each call whole; a receive step fills 1 to size bytes." Each rule but `standing Out` is one that a public contract cites.
 use mathlib.Core.{Path.◌≡◌, Logic.◌⊎◌, Logic.◌↔◌, Bool.Bool, Bool.true, Bool.cond}
 use mathlib.Core.List.{List, [], ◌∷◌, ◌++◌, foldl, Memᴰ as Among}
-use Rattle.std.specs.Prelude.{ℕ, zero, suc, ◌+◌, ◌-◌, ◌%◌, ◌^◌, min, ◌≤◌, ◌<◌, Ok, Err}
+use Rattle.std.specs.Prelude.{ℕ, zero, suc, ◌+◌, ◌-◌, ◌%◌, ◌^◌, min, ◌≤◌, ◌<◌, Option, None, Some, Ok, Err}
 use lib.{Dec.eqb, ListN.length, ListN.take, ListN.drop, ListN.get_or, Seq.paste}
 use Rattle.descriptors.specs.{Record.record_in, Record.is_cpu, Place.after, Walk.standing}
 use Rattle.descriptors.specs.Ring.{Ring, Outcome, record_of, sound, new_of, between_of}
 use Rattle.descriptors.specs.declared.record.{DmaDescriptor.DmaDescriptor, Owner.TheVariants.Dma}
-use Rattle.descriptors.specs.declared.record.Next.{Next, TheVariants.Nothing, TheVariants.At}
 use Rattle.descriptors.specs.declared.record.TransferDirection.{TransferDirection, TheVariants.In, TheVariants.Out}
-use Rattle.descriptors.specs.declared.refusal.{Counted.Counted, Done.Done, DmaBufError.TheVariants.Stopped}
+use Rattle.descriptors.specs.declared.refusal.{DmaBufError.TheVariants.Stopped}
 use Rattle.rx_stream.specs.declared.Took.{Took}
 use Rattle.rx_stream.specs.Receive as rx
 use Rattle.tx_stream.specs.Transmit as tx
@@ -22,16 +21,16 @@ use Rattle.device.specs.Device.{Stepped, receive_of, receive_into, transmit_of, 
 pub record World : Type 0 where
   pub ring : Ring
   pub bytes : List ℕ
-  pub device : Next
+  pub device : Option ℕ
   pub by_calls : List ℕ
   pub by_steps : List ℕ
   pub visited : List ℕ
 
-abbrev pub world : Ring → List ℕ → Next → List ℕ → List ℕ → List ℕ → World
+abbrev pub world : Ring → List ℕ → Option ℕ → List ℕ → List ℕ → List ℕ → World
 world r b d c s v = record { ring = r; bytes = b; device = d; by_calls = c; by_steps = s; visited = v }
 
 -- what an answer tells of the bytes l: as many as it says, and none if it is a refusal
-abbrev pub told : Counted → List ℕ → List ℕ
+abbrev pub told : Answer ℕ → List ℕ → List ℕ
 told (Ok k) l = take k l
 told (Err e) l = []
 
@@ -39,16 +38,16 @@ abbrev pub told_took : Answer Took → List ℕ → List ℕ
 told_took (Ok x) l = take x.taken l
 told_took (Err e) l = []
 
-abbrev pub told_done : Done → List ℕ → List ℕ
+abbrev pub told_done : Answer Unit → List ℕ → List ℕ
 told_done (Ok tt) l = l
 told_done (Err e) l = []
 
 -- the record that the device stands on, and that a step is on unless it is refused
-abbrev pub stands_on : Next → List ℕ
-stands_on Nothing = []
-stands_on (At i) = i ∷ []
+abbrev pub stands_on : Option ℕ → List ℕ
+stands_on None = []
+stands_on (Some i) = i ∷ []
 
-abbrev pub unless_refused : Counted → List ℕ → List ℕ
+abbrev pub unless_refused : Answer ℕ → List ℕ → List ℕ
 unless_refused (Ok k) l = l
 unless_refused (Err e) l = []
 
@@ -68,10 +67,10 @@ run step w acts = foldl step w acts
 
 -- THE START, "built and prepared once": any records were lent, and any bytes
 abbrev pub built : TransferDirection → List DmaDescriptor → ℕ → List ℕ → World
-built dir ds n bytes = world (new_of dir ds n (length bytes)).ring bytes (At 0) [] [] []
+built dir ds n bytes = world (new_of dir ds n (length bytes)).ring bytes (Some 0) [] [] []
 
-abbrev pub prepared : (Ring → ℕ → Outcome Done) → World → World
-prepared prepare w = world (prepare w.ring (length w.bytes)).ring w.bytes (At 0) w.by_calls [] []
+abbrev pub prepared : (Ring → ℕ → Outcome (Answer Unit)) → World → World
+prepared prepare w = world (prepare w.ring (length w.bytes)).ring w.bytes (Some 0) w.by_calls [] []
 
 -- "with at least one byte prefilled": pushed, or written into the offered part and committed
 pub data Prefill : Type 0 where
@@ -125,22 +124,22 @@ tx_step w (send out) =
 -- "Then both ends agree", whatever was done. First what holds of both directions alike.
 pub record Agrees {A : Type 0} (dir : TransferDirection) (step : World → A → World) (n : ℕ) (w : World) : Type 0 where
   -- "later steps .. add nothing"
-  pub halted : w.device ≡ Nothing → (more : List A) → ((run step w more).device ≡ Nothing) × ((run step w more).by_steps ≡ w.by_steps)
+  pub halted : w.device ≡ None → (more : List A) → ((run step w more).device ≡ None) × ((run step w more).by_steps ≡ w.by_steps)
   -- no record is skipped: the k-th step of the ring's life was on record k mod n
   pub order : (k : ℕ) → k < length w.visited → get_or w.visited k 0 ≡ k % n
   -- every call finds a sound ring, and a step the device on one of its records: refusal 5 comes for an output that is too short alone
   pub fit : sound dir w.ring (length w.bytes) ≡ true
-  pub stood : (i : ℕ) → w.device ≡ At i → i < n
+  pub stood : (i : ℕ) → w.device ≡ Some i → i < n
   -- the "32-bit tally of bytes taken (receive) or accepted (transmit)": two readings differ by the bytes between them
   pub counts : w.ring.tally ≡ length w.by_calls % 2 ^ 32
   pub between : (more : List A) → length (run step w more).by_calls - length w.by_calls < 2 ^ 32
       → between_of w.ring.tally (run step w more).ring.tally ≡ length (run step w more).by_calls - length w.by_calls
 
 -- "the records its links reach": the one that it stands on, its next, and so on; k of them at most
-unfoldable pub reached : Ring → ℕ → Next → List ℕ
+unfoldable pub reached : Ring → ℕ → Option ℕ → List ℕ
 reached r zero x = []
-reached r (suc k) Nothing = []
-reached r (suc k) (At i) = i ∷ reached r k (record_of r i).next
+reached r (suc k) None = []
+reached r (suc k) (Some i) = i ∷ reached r k (record_of r i).next
 
 -- the unread bytes that record j holds: those of a CPU-owned record, at the cursor less the offset
 unfoldable pub unread_at : World → ℕ → List ℕ
@@ -160,14 +159,14 @@ pub record Receive (n : ℕ) (w : World) : Type 0 where
   pub shown : (u : Bool) → rx.peek_of u w.ring w.bytes ≡ take (length (rx.peek_of u w.ring w.bytes)) (standing In w.ring w.bytes)
   pub shows : (u : Bool) → 0 < length (standing In w.ring w.bytes) → 0 < length (rx.peek_of u w.ring w.bytes)
   -- "until the device stops, the records its links reach are exactly those holding no unread byte"
-  pub reach : (i : ℕ) → w.device ≡ At i → (j : ℕ) → Among j (reached w.ring n w.device) ↔ ((j < n) × (unread_at w j ≡ []))
+  pub reach : (i : ℕ) → w.device ≡ Some i → (j : ℕ) → Among j (reached w.ring n w.device) ↔ ((j < n) × (unread_at w j ≡ []))
   -- "a record given back is filled within as many fills as there are records": one that the DMA owns, and no stop comes before
-  pub soon : (i : ℕ) → w.device ≡ At i → (j : ℕ) → j < n → (record_of w.ring j).owner ≡ Dma → (more : List RxAction)
-      → (n ≤ length (fills w more)) ⊎ ((run rx_step w more).device ≡ Nothing) → Among j (take n (fills w more))
+  pub soon : (i : ℕ) → w.device ≡ Some i → (j : ℕ) → j < n → (record_of w.ring j).owner ≡ Dma → (more : List RxAction)
+      → (n ≤ length (fills w more)) ⊎ ((run rx_step w more).device ≡ None) → Among j (take n (fills w more))
   -- "it stops exactly when it closes a record and every record then holds unread bytes; later steps are refused"
-  pub stop : (i : ℕ) → w.device ≡ At i → (a : RxAction)
-      → ((rx_step w a).device ≡ Nothing) ↔ (((rx_step w a).visited ≡ w.visited ++ (i ∷ [])) × ((j : ℕ) → j < n → 0 < length (unread_at (rx_step w a) j)))
-  pub refused : w.device ≡ Nothing → (bs : List ℕ) (eof : Bool) → (receive_of w.ring w.device (length w.bytes) (length bs) eof).answer ≡ Err Stopped
+  pub stop : (i : ℕ) → w.device ≡ Some i → (a : RxAction)
+      → ((rx_step w a).device ≡ None) ↔ (((rx_step w a).visited ≡ w.visited ++ (i ∷ [])) × ((j : ℕ) → j < n → 0 < length (unread_at (rx_step w a) j)))
+  pub refused : w.device ≡ None → (bs : List ℕ) (eof : Bool) → (receive_of w.ring w.device (length w.bytes) (length bs) eof).answer ≡ Err Stopped
 
 -- "Queued" is the DMA-owned records' bytes, in ring order after the CPU run; "pending" is the offset's bytes at the cursor.
 unfoldable pub dma_data : (ℕ → DmaDescriptor) → List ℕ → ℕ → ℕ → ℕ → List ℕ
@@ -185,8 +184,8 @@ pub record Transmit (n : ℕ) (w : World) : Type 0 where
   -- "bytes accepted for sending are those sent, queued and pending, in order"
   pub ends : w.by_calls ≡ w.by_steps ++ (queued_in w.ring w.bytes ++ pending_in w.ring w.bytes)
   -- the device stops exactly when nothing is queued after its step; "later steps are refused"
-  pub stop : (i : ℕ) → w.device ≡ At i → (a : TxAction) → ((tx_step w a).device ≡ Nothing) ↔ (queued_in (tx_step w a).ring (tx_step w a).bytes ≡ [])
-  pub refused : w.device ≡ Nothing → (out : List ℕ) → (transmit_of w.ring w.device (length w.bytes) (length out)).answer ≡ Err Stopped
+  pub stop : (i : ℕ) → w.device ≡ Some i → (a : TxAction) → ((tx_step w a).device ≡ None) ↔ (queued_in (tx_step w a).ring (tx_step w a).bytes ≡ [])
+  pub refused : w.device ≡ None → (out : List ℕ) → (transmit_of w.ring w.device (length w.bytes) (length out)).answer ≡ Err Stopped
 
 -- THE DEMAND: nothing more is asked of the lent records, the buffer and n than that `new` accepted
 pub record Demand3 : Type 0 where
