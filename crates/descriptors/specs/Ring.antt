@@ -10,6 +10,7 @@ use Rattle.descriptors.specs.declared.record.TransferDirection.TheVariants.{In, 
 use Rattle.descriptors.specs.declared.refusal.DmaBufError.TheVariants.{BadState}
 use Rattle.descriptors.specs.declared.split.Split.{Split}
 use Rattle.descriptors.specs.declared.ring.Head.{Head}
+use Rattle.descriptors.specs.declared.ring.Kept.{Kept}
 use Rattle.descriptors.specs.Refusal.{Answer}
 
 pub record Ring : Type 0 where
@@ -40,6 +41,10 @@ ring_of st ws h =
 abbrev pub head_of : Ring → Head
 head_of r =
     record { count = r.count; descriptor_idx = r.idx; descriptor_offset = r.offset; tally = r.tally; pre_filled = r.prefilled }
+
+-- by value: what a call answers, and the ring that it leaves, in the form `by`
+abbrev pub kept_of : {R A : Type 0} → (Ring → R) → Outcome (Answer A) → Kept R A
+kept_of by o = record { ring = by o.ring; answer = o.answer }
 
 abbrev pub with_records : Ring → List DmaDescriptor → Ring
 with_records r ds =

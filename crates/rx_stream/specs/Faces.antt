@@ -2,22 +2,17 @@
 -- head_of and cells_now, and what it answers is the outcome's answer; by value one struct holds both.
 use Rattle.std.specs.Prelude.{ℕ, ◌+◌, ◌-◌, ◌%◌, ◌^◌, List, []}
 use Rattle.descriptors.specs.Cells.{record_at, starts_now, cells_now}
-use Rattle.descriptors.specs.Ring.{Ring, Outcome, head_of}
+use Rattle.descriptors.specs.Ring.{Ring, head_of}
 use Rattle.descriptors.specs.Walk.{walk_in}
-use Rattle.descriptors.specs.Refusal.{Answer}
 use Rattle.descriptors.specs.declared.record.TransferDirection.TheVariants.{In}
 use Rattle.descriptors.specs.declared.cells.Words.{Words}
 use Rattle.descriptors.specs.declared.ring.Head.{Head}
-use Rattle.descriptors.specs.declared.ring.Kept.{Kept}
 use Rattle.descriptors.specs.declared.walk.Moved.{Moved}
 use Rattle.rx_stream.specs.declared.Took.{Took}
 use Rattle.rx_stream.specs.declared.buf.DmaRxStreamBuf.{DmaRxStreamBuf}
 use Rattle.rx_stream.specs.declared.view.DmaRxStreamBufView.{DmaRxStreamBufView}
 
 -- ---- by value: the cells show the outcome's records, and the starts do where they change, in `new`
-
-abbrev pub kept : {R A : Type 0} → (Ring → R) → Outcome (Answer A) → Kept R A
-kept now o = record { ring = now o.ring; answer = o.answer }
 
 abbrev pub buf_new : List ℕ → List ℕ → Ring → DmaRxStreamBuf
 buf_new st ws r = record { starts = starts_now st ws r.descriptors; cells = cells_now st ws r.descriptors; head = head_of r }

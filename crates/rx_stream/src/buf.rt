@@ -1,9 +1,9 @@
 // The ring before and after a transfer.
 ghost use Rattle.std.specs.Prelude.{◌≡◌, length};
 ghost use Rattle.descriptors.specs.Cells.{records_of};
-ghost use Rattle.descriptors.specs.Ring.{ring_of, new_of};
+ghost use Rattle.descriptors.specs.Ring.{ring_of, new_of, kept_of};
 ghost use Rattle.rx_stream.specs.Receive.{prepare_of};
-ghost use Rattle.rx_stream.specs.Faces.{kept, buf_new, buf_now, view_of, buf_of, words_of};
+ghost use Rattle.rx_stream.specs.Faces.{buf_new, buf_now, view_of, buf_of, words_of};
 
 use crate::in_place;
 use crate::view::DmaRxStreamBufView;
@@ -22,7 +22,7 @@ pub struct DmaRxStreamBuf {
 impl DmaRxStreamBuf {
     // Splits the buffer evenly over the first n records that the words show. After a refusal the words are as they were lent.
     pub fn new(mut starts: [u32; LIMIT], mut cells: [u16; CELLS], n: usize, buffer: &[u8]) -> Kept<DmaRxStreamBuf, ()>
-        ensures { result ≡ kept (buf_new starts cells) (new_of TransferDirection.In (records_of starts cells) n (length buffer.now)) }
+        ensures { result ≡ kept_of (buf_new starts cells) (new_of TransferDirection.In (records_of starts cells) n (length buffer.now)) }
     {
         let mut head = Head::default();
         let answer = ring::new_in(TransferDirection::In, &mut starts, &mut cells, &mut head, n, buffer.len());
@@ -46,7 +46,7 @@ impl DmaRxStreamBuf {
 
     // Links up all the records, but not in a circle, and hands them to the device.
     pub fn prepare(mut self, len: usize) -> Kept<DmaRxStreamBuf, ()>
-        ensures { result ≡ kept (buf_now self) (prepare_of (ring_of self.starts self.cells self.head) len) }
+        ensures { result ≡ kept_of (buf_now self) (prepare_of (ring_of self.starts self.cells self.head) len) }
     {
         let answer = in_place::prepare_in(&self.starts, &mut self.cells, &mut self.head, len);
         Kept { ring: self, answer }

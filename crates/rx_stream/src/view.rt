@@ -1,9 +1,9 @@
 // The ring during a transfer, ring in and ring out.
 ghost use Rattle.std.specs.Prelude.{◌≡◌, true, false, length};
 ghost use Rattle.descriptors.specs.Part.{part_from};
-ghost use Rattle.descriptors.specs.Ring.{ring_of};
+ghost use Rattle.descriptors.specs.Ring.{ring_of, kept_of};
 ghost use Rattle.rx_stream.specs.Receive.{available_of, peek_of, peek_place, peek_refusal_of, peek_eof_of, consume_of, pop_of, popped_over};
-ghost use Rattle.rx_stream.specs.Faces.{kept, view_now};
+ghost use Rattle.rx_stream.specs.Faces.{view_now};
 
 use crate::{Took, in_place};
 use descriptors::cells::CELLS;
@@ -58,7 +58,7 @@ impl DmaRxStreamBufView {
 
     // Consumes the first k bytes, or all there are, and gives fully consumed records back to the device.
     pub fn consume(mut self, len: usize, k: usize) -> Kept<DmaRxStreamBufView, Took>
-        ensures { result ≡ kept (view_now self) (consume_of (ring_of self.starts self.cells self.head) len k) }
+        ensures { result ≡ kept_of (view_now self) (consume_of (ring_of self.starts self.cells self.head) len k) }
     {
         let answer = in_place::consume_in(&self.starts, &mut self.cells, &mut self.head, len, k);
         Kept { ring: self, answer }
@@ -66,7 +66,7 @@ impl DmaRxStreamBufView {
 
     // Reads as much as possible into dst from the available bytes.
     pub fn pop(mut self, buffer: &[u8], dst: &mut [u8]) -> Kept<DmaRxStreamBufView, usize>
-        ensures value { result ≡ kept (view_now self) (pop_of (ring_of self.starts self.cells self.head) (length buffer.now) (length dst.old)) }
+        ensures value { result ≡ kept_of (view_now self) (pop_of (ring_of self.starts self.cells self.head) (length buffer.now) (length dst.old)) }
         ensures dst_after { dst.new ≡ popped_over (ring_of self.starts self.cells self.head) buffer.now dst.old }
     {
         let answer = in_place::pop_in(&self.starts, &mut self.cells, &mut self.head, buffer, dst);

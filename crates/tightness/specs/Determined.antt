@@ -5,11 +5,11 @@
 use Rattle.std.specs.Prelude.{ℕ, ◌≡◌, refl, Bool, List, length, Option}
 use Rattle.std.proofs.Common.{sym, ◌∙◌}
 use Rattle.descriptors.specs.Cells.{cells_now, put_start, put_record}
-use Rattle.descriptors.specs.Ring.{Ring, ring_of, NewIn}
+use Rattle.descriptors.specs.Ring.{Ring, ring_of, head_of, kept_of, NewIn}
 use Rattle.descriptors.specs.declared.record.DmaDescriptor.{DmaDescriptor}
 use Rattle.descriptors.specs.declared.record.TransferDirection.{TransferDirection}
 use Rattle.descriptors.specs.declared.ring.Head.{Head}
-use Rattle.descriptors.specs.declared.ring.Headed.{Headed}
+use Rattle.descriptors.specs.declared.ring.Kept.{Kept}
 use Rattle.std.specs.Borrow.{Bor}
 use Rattle.psram.specs.List.{Leaves, Listing}
 use Rattle.psram.specs.declared.held.Listed.{Listed}
@@ -17,31 +17,21 @@ use Rattle.psram.specs.declared.held.Held.{Held}
 use Rattle.psram.specs.Piece.{shown_of, place_of}
 use Rattle.rx_stream.specs.Receive as rx
 use Rattle.rx_stream.specs.Receive.{peek_of, peek_place, consume_of, pop_of, popped_over}
-use Rattle.rx_stream.specs.Faces as rx-faces
-use Rattle.rx_stream.specs.Faces.{consuming_of, popping_of, popped_of}
-use Rattle.rx_stream.specs.declared.in_place.Consuming.{Consuming}
-use Rattle.rx_stream.specs.declared.in_place.Popping.{Popping}
+use Rattle.rx_stream.specs.Faces.{view_now}
+use Rattle.rx_stream.specs.declared.Took.{Took}
 use Rattle.rx_stream.specs.declared.view.DmaRxStreamBufView.{DmaRxStreamBufView}
-use Rattle.rx_stream.specs.declared.view.Popped.{Popped}
 use Rattle.tx_stream.specs.Transmit as tx
-use Rattle.tx_stream.specs.Transmit.{prefill_of, prefill_into, prefill_offer_of, push_of, push_into, offer_of, advance_of, commit_of}
-use Rattle.tx_stream.specs.Faces as tx-faces
+use Rattle.tx_stream.specs.Transmit.{prefill_of, prefill_into, prefill_offer_of, push_of, push_into, offer_of, advance_of, commit_of, prefill_commit_of}
 use Rattle.descriptors.specs.Part.{part_from}
-use Rattle.tx_stream.specs.Faces.{accepting_of, prefill_place, offer_place}
-use Rattle.tx_stream.specs.Values.{buf_ring, view_ring, pushed_of, advanced_of}
-use Rattle.tx_stream.specs.declared.answer.Accepting.{Accepting}
+use Rattle.tx_stream.specs.Faces.{prefill_place, offer_place}
+use Rattle.tx_stream.specs.Values.{buf_ring, view_ring, buf_by, view_by}
 use Rattle.tx_stream.specs.declared.buf.DmaTxStreamBuf.{DmaTxStreamBuf}
-use Rattle.tx_stream.specs.declared.buf.Pushed.{Pushed}
 use Rattle.tx_stream.specs.declared.view.DmaTxStreamBufView.{DmaTxStreamBufView}
-use Rattle.tx_stream.specs.declared.view.Advanced.{Advanced}
 use Rattle.device.specs.Device.{receive_of, receive_into, transmit_of, transmit_over}
 use Rattle.device.specs.Values.{received_of, sent_of}
 use Rattle.device.specs.Faces.{ReceivedIn, SentIn}
-use Rattle.device.specs.declared.by_value.ReceivedStep.{ReceivedStep}
-use Rattle.device.specs.declared.by_value.SentStep.{SentStep}
-use Rattle.device.specs.declared.receive.Received.{Received}
+use Rattle.device.specs.declared.by_value.Step.{Step}
 use Rattle.descriptors.specs.Refusal.{Answer}
-use Rattle.device.specs.declared.transmit.Sent.{Sent}
 
 -- no two differing outcomes satisfy the contract C
 abbrev pub Determined : {A : Type 0} → (A → Type 0) → Type 0
@@ -60,12 +50,15 @@ by-equation-and z P x y e f = e.0 ∙ sym f.0
 pub by-equations : {I : Type 0} {A : I → Type 0} (z : (i : I) → A i) → Determined (λ (x : (i : I) → A i). (i : I) → x i ≡ z i)
 by-equations z x y e f = λ j i. (e i ∙ sym (f i)) j
 
--- of two things, and of three, as the contracts below have them
+-- of two things, of three and of four, as the contracts below have them
 pub by_two : {A B : Type 0} (z : A) (w : B) → Determined (λ (x : A × B). (x.0 ≡ z) × (x.1 ≡ w))
 by_two z w x y e f = rw (e.0, e.1, f.0, f.1) refl
 
 pub by_three : {A B C : Type 0} (z : A) (w : B) (v : C) → Determined (λ (x : A × B × C). (x.0 ≡ z) × (x.1 ≡ w) × (x.2 ≡ v))
 by_three z w v x y e f = rw (e.0, e.1, e.2, f.0, f.1, f.2) refl
+
+pub by_four : {A B C D : Type 0} (z : A) (w : B) (v : C) (u : D) → Determined (λ (x : A × B × C × D). (x.0 ≡ z) × (x.1 ≡ w) × (x.2 ≡ v) × (x.3 ≡ u))
+by_four z w v u x y e f = rw (e.0, e.1, e.2, e.3, f.0, f.1, f.2, f.3) refl
 
 -- ---- descriptors
 
@@ -74,9 +67,9 @@ pub set-descriptor : (st ws : List ℕ) (i : ℕ) (d : DmaDescriptor)
     → Determined (λ (x : List ℕ × List ℕ). (x.0 ≡ put_start st i d.buffer) × (x.1 ≡ put_record ws i d))
 set-descriptor st ws i d = by_two (put_start st i d.buffer) (put_record ws i d)
 
--- `new_in`: the starts, the cells, and the head with the answer
+-- `new_in`: the starts, the cells, the head and the answer
 pub new_in : (dir : TransferDirection) (st ws : List ℕ) (n len : ℕ)
-    → Determined (λ (x : List ℕ × List ℕ × Headed). NewIn dir st ws n len x.0 x.1 x.2)
+    → Determined (λ (x : List ℕ × List ℕ × Head × Answer Unit). NewIn dir st ws n len x.0 x.1 x.2 x.3)
 new_in dir st ws n len x y e f =
     rw (e.starts, e.cells, e.head, e.answer, f.starts, f.cells, f.head, f.answer) refl
 
@@ -84,7 +77,7 @@ new_in dir st ws n len x y e f =
 
 -- `build_descriptor_list_for_psram`: the starts, the cells and the answer
 pub build-list : (st ws : List ℕ) (l : Listing)
-    → Determined (λ (x : List ℕ × List ℕ × (Answer Listed)). Leaves st ws x.0 x.1 x.2 l)
+    → Determined (λ (x : List ℕ × List ℕ × Answer Listed). Leaves st ws x.0 x.1 x.2 l)
 build-list st ws l x y e f = rw (e.0, e.1.0, e.1.1, f.0, f.1.0, f.1.1) refl
 
 -- `piece`: its bytes, and where it begins in the one of the two lent slices that holds it
@@ -93,28 +86,28 @@ piece store range h = by_two _ _
 
 -- ---- device
 
--- the receive step: the cells, the buffer, and the device with the answer
+-- the receive step: the cells, the buffer, the device and the answer
 pub receive-step : (st ws : List ℕ) (h : Head) (dev : Option ℕ) (bytes bs : List ℕ) (eof : Bool)
-    → Determined (λ (x : List ℕ × List ℕ × Received). ReceivedIn st ws h dev bytes bs eof x.0 x.1 x.2)
+    → Determined (λ (x : List ℕ × List ℕ × Option ℕ × Answer Unit). ReceivedIn st ws h dev bytes bs eof x.0 x.1 x.2 x.3)
 receive-step st ws h dev bytes bs eof x y e f =
     rw (e.cells, e.buffer, e.device, e.answer, f.cells, f.buffer, f.device, f.answer) refl
 
--- the transmit step: the cells, the output, and the device with the answer
+-- the transmit step: the cells, the output, the device and the answer
 pub transmit-step : (st ws : List ℕ) (h : Head) (dev : Option ℕ) (bytes out : List ℕ)
-    → Determined (λ (x : List ℕ × List ℕ × Sent). SentIn st ws h dev bytes out x.0 x.1 x.2)
+    → Determined (λ (x : List ℕ × List ℕ × Option ℕ × Answer ℕ). SentIn st ws h dev bytes out x.0 x.1 x.2 x.3)
 transmit-step st ws h dev bytes out x y e f =
     rw (e.cells, e.output, e.device, e.answer, f.cells, f.output, f.device, f.answer) refl
 
 -- the steps by value: the ring with device and answer, and the bytes
 pub receive-step-by-value : (v : DmaRxStreamBufView) (dev : Option ℕ) (bytes bs : List ℕ) (eof : Bool) → let r = ring_of v.starts v.cells v.head in
-    Determined (λ (x : ReceivedStep × List ℕ). (x.0 ≡ received_of v (receive_of r dev (length bytes) (length bs) eof)) × (x.1 ≡ receive_into r dev bytes bs))
+    Determined (λ (x : Step DmaRxStreamBufView Unit × List ℕ). (x.0 ≡ received_of v (receive_of r dev (length bytes) (length bs) eof)) × (x.1 ≡ receive_into r dev bytes bs))
 receive-step-by-value v dev bytes bs eof = by_two _ _
 
 pub transmit-step-by-value : (v : DmaTxStreamBufView) (dev : Option ℕ) (bytes out : List ℕ) → let r = ring_of v.starts v.cells v.head in
-    Determined (λ (x : SentStep × List ℕ). (x.0 ≡ sent_of v (transmit_of r dev (length bytes) (length out))) × (x.1 ≡ transmit_over r dev bytes out))
+    Determined (λ (x : Step DmaTxStreamBufView ℕ × List ℕ). (x.0 ≡ sent_of v (transmit_of r dev (length bytes) (length out))) × (x.1 ≡ transmit_over r dev bytes out))
 transmit-step-by-value v dev bytes out = by_two _ _
 
--- ---- rx_stream: in place the cells, and the head with the answer; by value one equation, but for pop's destination
+-- ---- rx_stream: in place the cells, the head and the answer; by value one equation, but for pop's destination
 
 module _ (st ws : List ℕ) (h : Head) where
   abbrev ring : Ring
@@ -124,15 +117,15 @@ module _ (st ws : List ℕ) (h : Head) where
   abbrev left : Ring → List ℕ
   left r = cells_now st ws r.descriptors
 
-  pub rx-prepare-in : (len : ℕ) → let o = rx.prepare_of ring len in Determined (λ (x : List ℕ × Headed). (x.0 ≡ left o.ring) × (x.1 ≡ rx-faces.headed_of o))
-  rx-prepare-in len = by_two _ _
+  pub rx-prepare-in : (len : ℕ) → let o = rx.prepare_of ring len in Determined (λ (x : List ℕ × Head × Answer Unit). (x.0 ≡ left o.ring) × (x.1 ≡ head_of o.ring) × (x.2 ≡ o.answer))
+  rx-prepare-in len = by_three _ _ _
 
-  pub consume-in : (len k : ℕ) → let o = consume_of ring len k in Determined (λ (x : List ℕ × Consuming). (x.0 ≡ left o.ring) × (x.1 ≡ consuming_of o))
-  consume-in len k = by_two _ _
+  pub consume-in : (len k : ℕ) → let o = consume_of ring len k in Determined (λ (x : List ℕ × Head × Answer Took). (x.0 ≡ left o.ring) × (x.1 ≡ head_of o.ring) × (x.2 ≡ o.answer))
+  consume-in len k = by_three _ _ _
 
   pub pop-in : (bytes dst : List ℕ) → let o = pop_of ring (length bytes) (length dst) in
-      Determined (λ (x : List ℕ × List ℕ × Popping). (x.0 ≡ left o.ring) × (x.1 ≡ popped_over ring bytes dst) × (x.2 ≡ popping_of o))
-  pop-in bytes dst = by_three _ _ _
+      Determined (λ (x : List ℕ × Head × List ℕ × Answer ℕ). (x.0 ≡ left o.ring) × (x.1 ≡ head_of o.ring) × (x.2 ≡ popped_over ring bytes dst) × (x.3 ≡ o.answer))
+  pop-in bytes dst = by_four _ _ _ _
 
   -- a part to read: its bytes, and where it begins in the lent buffer b
   pub peek-in : (until_eof : Bool) (b : Bor (List ℕ)) → Determined (λ (x : List ℕ × (ℕ × ℕ)). (x.0 ≡ peek_of until_eof ring b.now) × (x.1 ≡ part_from b (peek_place ring b.now)))
@@ -140,21 +133,25 @@ module _ (st ws : List ℕ) (h : Head) where
 
   -- ---- tx_stream, in place
 
-  pub prefill-in : (bytes bs : List ℕ) → Determined (λ (x : Accepting × List ℕ). (x.0 ≡ accepting_of (prefill_of ring (length bytes) (length bs))) × (x.1 ≡ prefill_into ring bytes bs))
-  prefill-in bytes bs = by_two _ _
+  pub prefill-in : (bytes bs : List ℕ) → let o = prefill_of ring (length bytes) (length bs) in
+      Determined (λ (x : Head × Answer ℕ × List ℕ). (x.0 ≡ head_of o.ring) × (x.1 ≡ o.answer) × (x.2 ≡ prefill_into ring bytes bs))
+  prefill-in bytes bs = by_three _ _ _
 
-  pub tx-prepare-in : (len : ℕ) → let o = tx.prepare_of ring len in Determined (λ (x : List ℕ × Headed). (x.0 ≡ left o.ring) × (x.1 ≡ tx-faces.headed_of o))
-  tx-prepare-in len = by_two _ _
+  pub prefill-commit-in : (len k : ℕ) → let o = prefill_commit_of ring len k in Determined (λ (x : Head × Answer ℕ). (x.0 ≡ head_of o.ring) × (x.1 ≡ o.answer))
+  prefill-commit-in len k = by_two _ _
+
+  pub tx-prepare-in : (len : ℕ) → let o = tx.prepare_of ring len in Determined (λ (x : List ℕ × Head × Answer Unit). (x.0 ≡ left o.ring) × (x.1 ≡ head_of o.ring) × (x.2 ≡ o.answer))
+  tx-prepare-in len = by_three _ _ _
 
   pub push-in : (bytes bs : List ℕ) → let o = push_of ring (length bytes) (length bs) in
-      Determined (λ (x : List ℕ × Accepting × List ℕ). (x.0 ≡ left o.ring) × (x.1 ≡ accepting_of o) × (x.2 ≡ push_into ring bytes bs))
-  push-in bytes bs = by_three _ _ _
+      Determined (λ (x : List ℕ × Head × Answer ℕ × List ℕ). (x.0 ≡ left o.ring) × (x.1 ≡ head_of o.ring) × (x.2 ≡ o.answer) × (x.3 ≡ push_into ring bytes bs))
+  push-in bytes bs = by_four _ _ _ _
 
-  pub commit-in : (len k : ℕ) → let o = commit_of ring len k in Determined (λ (x : List ℕ × Accepting). (x.0 ≡ left o.ring) × (x.1 ≡ accepting_of o))
-  commit-in len k = by_two _ _
+  pub commit-in : (len k : ℕ) → let o = commit_of ring len k in Determined (λ (x : List ℕ × Head × Answer ℕ). (x.0 ≡ left o.ring) × (x.1 ≡ head_of o.ring) × (x.2 ≡ o.answer))
+  commit-in len k = by_three _ _ _
 
-  pub advance-in : (len k : ℕ) → let o = advance_of ring len k in Determined (λ (x : List ℕ × Accepting). (x.0 ≡ left o.ring) × (x.1 ≡ accepting_of o))
-  advance-in len k = by_two _ _
+  pub advance-in : (len k : ℕ) → let o = advance_of ring len k in Determined (λ (x : List ℕ × Head × Answer ℕ). (x.0 ≡ left o.ring) × (x.1 ≡ head_of o.ring) × (x.2 ≡ o.answer))
+  advance-in len k = by_three _ _ _
 
   -- an offered part: its bytes, and where it begins in the lent buffer b
   pub offer-in : (b : Bor (List ℕ)) → Determined (λ (x : List ℕ × (ℕ × ℕ)). (x.0 ≡ offer_of ring b.now) × (x.1 ≡ part_from b (offer_place ring b.now)))
@@ -166,13 +163,13 @@ module _ (st ws : List ℕ) (h : Head) where
 -- ---- by value: the ring with its answer, and the bytes written
 
 pub pop : (v : DmaRxStreamBufView) (bytes dst : List ℕ) → let r = ring_of v.starts v.cells v.head in
-    Determined (λ (x : Popped × List ℕ). (x.0 ≡ popped_of v (pop_of r (length bytes) (length dst))) × (x.1 ≡ popped_over r bytes dst))
+    Determined (λ (x : Kept DmaRxStreamBufView ℕ × List ℕ). (x.0 ≡ kept_of (view_now v) (pop_of r (length bytes) (length dst))) × (x.1 ≡ popped_over r bytes dst))
 pop v bytes dst = by_two _ _
 
 pub prefill : (b : DmaTxStreamBuf) (bytes bs : List ℕ)
-    → Determined (λ (x : Pushed × List ℕ). (x.0 ≡ pushed_of b (prefill_of (buf_ring b) (length bytes) (length bs))) × (x.1 ≡ prefill_into (buf_ring b) bytes bs))
+    → Determined (λ (x : Kept DmaTxStreamBuf ℕ × List ℕ). (x.0 ≡ kept_of (buf_by b) (prefill_of (buf_ring b) (length bytes) (length bs))) × (x.1 ≡ prefill_into (buf_ring b) bytes bs))
 prefill b bytes bs = by_two _ _
 
 pub push : (v : DmaTxStreamBufView) (bytes bs : List ℕ)
-    → Determined (λ (x : Advanced × List ℕ). (x.0 ≡ advanced_of v (push_of (view_ring v) (length bytes) (length bs))) × (x.1 ≡ push_into (view_ring v) bytes bs))
+    → Determined (λ (x : Kept DmaTxStreamBufView ℕ × List ℕ). (x.0 ≡ kept_of (view_by v) (push_of (view_ring v) (length bytes) (length bs))) × (x.1 ≡ push_into (view_ring v) bytes bs))
 push v bytes bs = by_two _ _

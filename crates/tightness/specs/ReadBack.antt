@@ -262,7 +262,10 @@ new-many dir ds n len (Ok x) = go (ltb (length ds) n)
     laid-many : length (laid_out dir n len ds) ≡ length ds
     laid-many = unfold laid_out in each-length (laid dir n len) n ds
 
-    go : (b : Bool) → length (cond b (refused (fresh ds n) (Err BadState)) record { ring = fresh (laid_out dir n len ds) n; answer = Ok tt }).ring.descriptors ≡ length ds
+    made : Outcome (Answer Unit)
+    made = record { ring = fresh (laid_out dir n len ds) n; answer = Ok tt }
+
+    go : (b : Bool) → length (cond b (refused (fresh ds n) (Err BadState)) made).ring.descriptors ≡ length ds
     go true = refl
     go false = laid-many
 

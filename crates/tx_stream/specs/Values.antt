@@ -23,7 +23,3 @@ view_by v r = record { starts = v.starts; cells = cells_now v.starts v.cells r.d
 -- `new`'s, on words that were given
 abbrev pub built_by : List ℕ → List ℕ → Ring → DmaTxStreamBuf
 built_by st ws r = record { starts = starts_now st ws r.descriptors; cells = cells_now st ws r.descriptors; head = head_of r }
-
--- a call's answer, and the ring that it leaves
-abbrev pub kept_of : {R A : Type 0} → (Ring → R) → Outcome (Answer A) → Kept R A
-kept_of by o = record { ring = by o.ring; answer = o.answer }

@@ -1,11 +1,11 @@
 // The ring by value, before the device sends: each call takes the ring and gives it back, over the call in place.
 ghost use Rattle.std.specs.Prelude.{◌≡◌, length};
 ghost use Rattle.descriptors.specs.Cells.{records_of};
-ghost use Rattle.descriptors.specs.Ring.{new_of};
+ghost use Rattle.descriptors.specs.Ring.{new_of, kept_of};
 ghost use Rattle.descriptors.specs.Part.{part_from, as_read};
 ghost use Rattle.tx_stream.specs.Transmit.{prefill_of, prefill_into, prefill_offer_of, prefill_offer_refusal_of, prefill_commit_of, prepare_of};
 ghost use Rattle.tx_stream.specs.Faces.{prefill_place};
-ghost use Rattle.tx_stream.specs.Values.{buf_ring, buf_by, built_by, kept_of};
+ghost use Rattle.tx_stream.specs.Values.{buf_ring, buf_by, built_by};
 
 use crate::view::DmaTxStreamBufView;
 use crate::{prefill, prepare};

@@ -3,7 +3,8 @@ ghost use Rattle.std.specs.Prelude.{◌≡◌, length};
 ghost use Rattle.descriptors.specs.Part.{part_from, as_read};
 ghost use Rattle.tx_stream.specs.Transmit.{available_of, push_of, push_into, offer_of, offer_refusal_of, commit_of, advance_of};
 ghost use Rattle.tx_stream.specs.Faces.{offer_place};
-ghost use Rattle.tx_stream.specs.Values.{view_ring, view_by, kept_of};
+ghost use Rattle.descriptors.specs.Ring.{kept_of};
+ghost use Rattle.tx_stream.specs.Values.{view_ring, view_by};
 
 use crate::in_place;
 use descriptors::cells::CELLS;
