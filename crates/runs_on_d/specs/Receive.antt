@@ -2,7 +2,7 @@
 -- compared, on D, bytes in hex: the device fills 01 02 03, then 04 05 with EOF. Available 5; peek and peek_until_eof give all five, the
 -- latter with yes. Pop 4: 01 02 03 04, cursor (1,1), next of 3 is 0, next of 0 none. Pop 4: 05, cursor (2,0). Fill 06 07 08, then
 -- 09 0A 0B 0C 0D. Pop 5 leaves (3,2). peek: 0B 0C 0D .."
-use Rattle.std.specs.Prelude.{◌≡◌, refl, true, false, List, [], ◌∷◌, ℕ, length, replicate, Ok, Some, None, Option}
+use Rattle.std.specs.Prelude.{Bool, ◌≡◌, refl, true, false, List, [], ◌∷◌, ℕ, length, replicate, Ok, Some, None, Option}
 use Rattle.descriptors.specs.Place.{turns}
 use Rattle.descriptors.specs.Record.{up_to}
 use Rattle.descriptors.specs.Split.{split_of, start_of, size_of, laid_out}
