@@ -20,6 +20,9 @@ is_good a = leb a widest && eqb (ones a) 1
 abbrev pub holds : Region → ℕ → ℕ → Bool
 holds r start end = leb r.start start && leb end r.end
 
+abbrev pub contains : Region → ℕ → Bool
+contains r address = leb r.start address && ltb address r.end
+
 -- not "range in neither region, or past 2^32"
 unfoldable pub supported : ℕ → ℕ → Region → Region → Bool
 supported start end internal external = leb end top && (holds internal start end || holds external start end)
@@ -27,7 +30,7 @@ supported start end internal external = leb end top && (holds internal start end
 -- "The larger alignment holds where the address is external."
 unfoldable pub alignment_at : ℕ → Region → ℕ → ℕ → ℕ
 alignment_at address external ai ae =
-    cond (leb external.start address && ltb address external.end) (max ai ae) ai
+    cond (contains external address) (max ai ae) ai
 
 -- "then 10 if the address is no multiple; then, for In only, 11 if the length is none"
 abbrev pub sized_of : ℕ → TransferDirection → ℕ → Answer Unit

@@ -2,7 +2,7 @@
 #![tactic(auto)]
 
 ghost use Rattle.std.specs.Prelude.{◌≡◌, ◌<◌};
-ghost use Rattle.burst.specs.Burst.{is_good, holds, supported, alignment_at, aligned_of, compatible_of};
+ghost use Rattle.burst.specs.Burst.{is_good, holds, contains, supported, alignment_at, aligned_of, compatible_of};
 
 use descriptors::record::{TOP, TransferDirection};
 use descriptors::refusal::{DmaAlignmentError, DmaBufError};
@@ -11,44 +11,44 @@ use descriptors::refusal::{DmaAlignmentError, DmaBufError};
 pub const WIDEST: u32 = 64;
 
 // A memory region, half-open: an end wants more than 32 bits.
-#[derive(Clone, Copy)]
+#[derive(Clone, Copy, Debug, PartialEq, Eq)]
 pub struct Region {
     pub start: u64,
     pub end: u64,
 }
 
+impl Region {
+    // Whether the region holds the addresses from start up to end.
+    fn holds(self, start: u64, end: u64) -> bool
+        ensures { result ≡ holds self start end }
+    {
+        self.start <= start && end <= self.end
+    }
+
+    // Whether an address is one of the region's.
+    fn contains(self, address: u64) -> bool
+        ensures { result ≡ contains self address }
+    {
+        self.start <= address && address < self.end
+    }
+}
+
+#[tactic(auto, unfolding(crate::specs::Burst::is_good))]
 fn is_good(alignment: u32) -> bool
     ensures { result ≡ is_good alignment }
 {
-    if WIDEST < alignment {
-        return false;
-    }
-    u32::count_ones(alignment) == 1
+    alignment <= WIDEST && alignment.count_ones() == 1
 }
 
-// Whether a region holds the addresses from start up to end.
-fn holds(region: Region, start: u64, end: u64) -> bool
-    ensures { result ≡ holds region start end }
-{
-    if start < region.start {
-        return false;
-    }
-    end <= region.end
-}
-
+#[tactic(auto, unfolding(crate::specs::Burst::supported))]
 fn is_supported(start: u64, end: u64, internal: Region, external: Region) -> bool
     ensures { result ≡ supported start end internal external }
 {
-    if (TOP as u64) < end {
-        return false;
-    }
-    if holds(internal, start, end) {
-        return true;
-    }
-    holds(external, start, end)
+    end <= TOP as u64 && (internal.holds(start, end) || external.holds(start, end))
 }
 
 // The alignment that is asked at an address.
+#[tactic(auto, unfolding(crate::specs::Burst::alignment_at))]
 fn min_alignment(
     address: u64,
     external: Region,
@@ -57,18 +57,13 @@ fn min_alignment(
 ) -> u32
     ensures { result ≡ alignment_at address external internal_alignment external_alignment }
 {
-    if address < external.start {
-        return internal_alignment;
-    }
-    if external.end <= address {
-        return internal_alignment;
-    }
-    if internal_alignment < external_alignment {
-        return external_alignment;
+    if external.contains(address) {
+        return internal_alignment.max(external_alignment);
     }
     internal_alignment
 }
 
+#[tactic(auto, unfolding(crate::specs::Burst::aligned_of))]
 fn ensure_buffer_aligned(
     address: u32,
     length: u32,
@@ -81,18 +76,14 @@ fn ensure_buffer_aligned(
     if address % alignment != 0 {
         return Err(DmaBufError::InvalidAlignment(DmaAlignmentError::Address));
     }
-    match direction {
-        TransferDirection::Out => Ok(()),
-        TransferDirection::In => {
-            if length % alignment != 0 {
-                return Err(DmaBufError::InvalidAlignment(DmaAlignmentError::Size));
-            }
-            Ok(())
-        }
+    if direction.is_in() && length % alignment != 0 {
+        return Err(DmaBufError::InvalidAlignment(DmaAlignmentError::Size));
     }
+    Ok(())
 }
 
 // The external alignment that the Rust asks for Out is 1: a caller passes 1 for Out.
+#[tactic(auto, unfolding(crate::specs::Burst::compatible_of))]
 pub fn ensure_buffer_compatible(
     address: u32,
     length: u32,
@@ -104,10 +95,7 @@ pub fn ensure_buffer_compatible(
 ) -> Result<(), DmaBufError>
     ensures { result ≡ compatible_of address length direction internal external internal_alignment external_alignment }
 {
-    if !is_good(internal_alignment) {
-        return Err(DmaBufError::BadAlignment);
-    }
-    if !is_good(external_alignment) {
+    if !is_good(internal_alignment) || !is_good(external_alignment) {
         return Err(DmaBufError::BadAlignment);
     }
     if length == 0 {

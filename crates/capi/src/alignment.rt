@@ -6,14 +6,16 @@ ghost use Rattle.capi.specs.Alignment.{compatible_number};
 use crate::answer;
 use burst::Region;
 use descriptors::record::TransferDirection;
+use descriptors::refusal::DmaBufError;
 
+// Numbers name directions in C: the C interface.
 fn direction_of(direction: u32) -> TransferDirection
     ensures { result ≡ direction_of direction }
 {
-    if direction == 0 {
-        return TransferDirection::In;
+    match direction {
+        0 => TransferDirection::In,
+        _ => TransferDirection::Out,
     }
-    TransferDirection::Out
 }
 
 #[unsafe(no_mangle)]
@@ -31,7 +33,7 @@ pub extern "C" fn dma_ensure_buffer_compatible(
     ensures { result ≡ compatible_number direction address len (record { start = internal_low; end = internal_high }) (record { start = external_low; end = external_high }) internal_alignment external_alignment }
 {
     if 1 < direction {
-        return 5;
+        return answer::number(DmaBufError::BadState);
     }
     let internal = Region {
         start: internal_low,

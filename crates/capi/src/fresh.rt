@@ -2,23 +2,15 @@
 ghost use Rattle.std.specs.Prelude.{◌≡◌};
 ghost use Rattle.descriptors.specs.Cells.{records_of};
 ghost use Rattle.descriptors.specs.Ring.{new_of};
-ghost use Rattle.capi.specs.New.{head_if, new_number, new_head, new_starts, new_cells};
+ghost use Rattle.capi.specs.New.{new_number, new_head, new_starts, new_cells};
 
 use crate::{answer, words};
 use descriptors::record::TransferDirection;
+use descriptors::refusal::DmaBufError;
 use descriptors::ring;
 use descriptors::ring::Head;
 
 // The head is written where the ring is made.
-fn put_if(head: &mut [u64], outcome: Result<(), DmaBufError>, h: Head)
-    ensures { head.new ≡ head_if outcome head.old h }
-{
-    match outcome {
-        Ok(()) => words::put(head, h),
-        Err(_) => {}
-    }
-}
-
 pub(crate) fn new(
     dir: TransferDirection,
     head: &mut [u64],
@@ -33,11 +25,14 @@ pub(crate) fn new(
     ensures value { result ≡ new_number head.old (new_of dir (records_of starts.old cells.old) count len) }
 {
     if head.len() != words::WORDS {
-        return 5;
+        return answer::number(DmaBufError::BadState);
     }
-    let m = ring::new_in(dir, starts, cells, count, len);
-    let h = m.head;
-    let outcome = m.answer;
-    put_if(head, outcome, h);
-    answer::done(outcome)
+    let mut h = Head::default();
+    match ring::new_in(dir, starts, cells, &mut h, count, len) {
+        Ok(()) => {
+            words::put(head, h);
+            0
+        }
+        Err(e) => answer::number(e),
+    }
 }

@@ -8,72 +8,25 @@ ghost use Rattle.capi.specs.Answer.{said_number, said_in};
 ghost use Rattle.capi.specs.Pieces.{chip_of, piece_ready, ready_said, cut_said, listed_said, held_said};
 
 use crate::answer;
-use crate::answer::Said;
+use descriptors::refusal::DmaBufError;
 use psram::chip::Chip;
-use psram::held::{Held, Listed};
-use psram::plan::Cut;
 use psram::{cut, list, piece};
 
+// Numbers name chips in C: the C interface.
 fn chip_of(chip: u32) -> Chip
     ensures { result ≡ chip_of chip }
 {
-    if chip == 0 {
-        return Chip::Ordinary;
+    match chip {
+        0 => Chip::Ordinary,
+        _ => Chip::S2,
     }
-    Chip::S2
 }
 
+#[tactic(auto, unfolding(crate::specs::Pieces::piece_ready))]
 fn piece_ready(answer: &[u64], chip: u32) -> bool
     ensures { result ≡ piece_ready answer.now chip }
 {
-    if 1 < chip {
-        return false;
-    }
-    answer::has_room(answer)
-}
-
-fn said_cut(outcome: Result<Cut, DmaBufError>) -> Result<Said, DmaBufError>
-    ensures { result ≡ cut_said outcome }
-{
-    match outcome {
-        Ok(Cut { head, middle, tail }) => Ok(Said {
-            first: head,
-            second: middle,
-            third: tail,
-        }),
-        Err(e) => Err(e),
-    }
-}
-
-fn said_listed(outcome: Result<Listed, DmaBufError>) -> Result<Said, DmaBufError>
-    ensures { result ≡ listed_said outcome }
-{
-    match outcome {
-        Ok(Listed { covered, used }) => Ok(Said {
-            first: covered,
-            second: used,
-            third: 0,
-        }),
-        Err(e) => Err(e),
-    }
-}
-
-fn said_held(outcome: Result<Held, DmaBufError>) -> Result<Said, DmaBufError>
-    ensures { result ≡ held_said outcome }
-{
-    match outcome {
-        Ok(Held::InStore { start, size }) => Ok(Said {
-            first: 0,
-            second: start,
-            third: size,
-        }),
-        Ok(Held::InRange { start, size }) => Ok(Said {
-            first: 1,
-            second: start,
-            third: size,
-        }),
-        Err(e) => Err(e),
-    }
+    chip <= 1 && answer::has_room(answer)
 }
 
 // answer: head, middle, tail.
@@ -83,10 +36,10 @@ pub extern "C" fn dma_head_middle_tail(address: u32, len: u32, chip: u32, answer
     ensures answer_after { answer.new ≡ said_in answer.old (ready_said (piece_ready answer.old chip) (cut_said (cut_of (chip_of chip) address len))) }
 {
     if !piece_ready(answer, chip) {
-        return 5;
+        return answer::number(DmaBufError::BadState);
     }
     let outcome = cut::cut(address, len, chip_of(chip));
-    answer::put(answer, said_cut(outcome))
+    answer::put(answer, outcome)
 }
 
 // answer: the bytes covered and the records used. count: the records that may be used.
@@ -107,7 +60,7 @@ pub extern "C" fn dma_build_descriptor_list_for_psram(
     ensures answer_after { answer.new ≡ said_in answer.old (ready_said (piece_ready answer.old chip) (listed_said (list_of (records_of starts.old cells.old) count address len (chip_of chip) store_len).answer)) }
 {
     if !piece_ready(answer, chip) {
-        return 5;
+        return answer::number(DmaBufError::BadState);
     }
     let outcome = list::build_descriptor_list_for_psram(
         starts,
@@ -118,7 +71,7 @@ pub extern "C" fn dma_build_descriptor_list_for_psram(
         chip_of(chip),
         store_len,
     );
-    answer::put(answer, said_listed(outcome))
+    answer::put(answer, outcome)
 }
 
 // answer: 0 in the bounce store or 1 in the range, start, size.
@@ -136,9 +89,9 @@ pub extern "C" fn dma_piece(
     ensures answer_after { answer.new ≡ said_in answer.old (ready_said (piece_ready answer.old chip) (held_said (numbered_of count address len (chip_of chip) store_len number))) }
 {
     if !piece_ready(answer, chip) {
-        return 5;
+        return answer::number(DmaBufError::BadState);
     }
     let bytes = len as usize;
     let outcome = piece::numbered(count, address, bytes, chip_of(chip), store_len, number);
-    answer::put(answer, said_held(outcome))
+    answer::put(answer, outcome)
 }

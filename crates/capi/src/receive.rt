@@ -40,11 +40,9 @@ pub extern "C" fn dma_rx_prepare(
     ensures head_after { head.new ≡ head_now true head.old (head_of (prepare_of (lent_ring true head.old starts.now cells.old) len).ring) }
     ensures value { result ≡ done_number (prepare_of (lent_ring true head.old starts.now cells.old) len).answer }
 {
-    let h = words::head_of(head, true);
-    let m = in_place::prepare_in(starts, cells, h, len);
-    let after = m.head;
-    let outcome = m.answer;
-    words::put_head(head, true, after);
+    let mut h = words::head_of(head, true);
+    let outcome = in_place::prepare_in(starts, cells, &mut h, len);
+    words::put_head(head, true, h);
     answer::done(outcome)
 }
 
@@ -63,7 +61,7 @@ pub extern "C" fn dma_rx_available_bytes<'a>(
     let ready = answer::has_room(answer);
     let h = words::head_of(head, ready);
     let outcome = in_place::available_in(starts, cells, h, len);
-    answer::put(answer, answer::counted(outcome))
+    answer::put(answer, outcome)
 }
 
 // answer: the place in the buffer and the length of the part that can be read without a copy.
@@ -118,12 +116,10 @@ pub extern "C" fn dma_rx_consume(
     ensures answer_after { answer.new ≡ said_in answer.old (took_said (consume_of (lent_ring (has_room answer.old) head.old starts.now cells.old) len k).answer) }
 {
     let ready = answer::has_room(answer);
-    let h = words::head_of(head, ready);
-    let m = in_place::consume_in(starts, cells, h, len, k);
-    let after = m.head;
-    let outcome = m.answer;
-    words::put_head(head, ready, after);
-    answer::put(answer, answer::took(outcome))
+    let mut h = words::head_of(head, ready);
+    let outcome = in_place::consume_in(starts, cells, &mut h, len, k);
+    words::put_head(head, ready, h);
+    answer::put(answer, outcome)
 }
 
 // answer: the bytes taken.
@@ -143,10 +139,8 @@ pub extern "C" fn dma_rx_pop(
     ensures answer_after { answer.new ≡ said_in answer.old (counted_said (pop_of (lent_ring (has_room answer.old) head.old starts.now cells.old) (length buffer.now) (length destination.old)).answer) }
 {
     let ready = answer::has_room(answer);
-    let h = words::head_of(head, ready);
-    let m = in_place::pop_in(starts, cells, h, buffer, destination);
-    let after = m.head;
-    let outcome = m.answer;
-    words::put_head(head, ready, after);
-    answer::put(answer, answer::counted(outcome))
+    let mut h = words::head_of(head, ready);
+    let outcome = in_place::pop_in(starts, cells, &mut h, buffer, destination);
+    words::put_head(head, ready, h);
+    answer::put(answer, outcome)
 }

@@ -9,25 +9,18 @@ ghost use Rattle.capi.specs.Steps.{step_ready};
 use crate::{answer, words};
 use device::{receive, transmit};
 
+#[tactic(auto, unfolding(crate::specs::Steps::step_ready))]
 fn step_ready<'a>(answer: &'a [u64], device: &'a [u64], eof: u32) -> bool
     ensures { result ≡ step_ready answer.now device.now eof }
 {
-    if 1 < eof {
-        return false;
-    }
-    if !answer::has_room(answer) {
-        return false;
-    }
-    words::is_place(device)
+    eof <= 1 && answer::has_room(answer) && words::is_place(device)
 }
 
+// A mark is a number in C: the C interface.
 fn is_eof(eof: u32) -> bool
     ensures { result ≡ eof_of eof }
 {
-    if eof == 0 {
-        return false;
-    }
-    true
+    eof != 0
 }
 
 // A receive step; eof is 0 or 1. answer: the bytes put in.
@@ -50,12 +43,10 @@ pub extern "C" fn dma_rx_step(
 {
     let ready = step_ready(answer, device, eof);
     let h = words::head_of(head, ready);
-    let place = words::place_of(device, ready);
-    let m = receive::receive_step_in(starts, cells, h, place, buffer, incoming, is_eof(eof));
-    let after = m.device;
-    let outcome = m.answer;
-    words::put_place(device, ready, after);
-    answer::put(answer, answer::done_with(outcome, incoming.len()))
+    let mut place = words::place_of(device, ready);
+    let outcome = receive::receive_step_in(starts, cells, h, &mut place, buffer, incoming, is_eof(eof));
+    words::put_place(device, ready, place);
+    answer::put(answer, outcome.and(Ok(incoming.len())))
 }
 
 // A transmit step. answer: the bytes sent.
@@ -77,10 +68,8 @@ pub extern "C" fn dma_tx_step(
 {
     let ready = step_ready(answer, device, 0);
     let h = words::head_of(head, ready);
-    let place = words::place_of(device, ready);
-    let m = transmit::transmit_step_in(starts, cells, h, place, buffer, output);
-    let after = m.device;
-    let outcome = m.answer;
-    words::put_place(device, ready, after);
-    answer::put(answer, answer::counted(outcome))
+    let mut place = words::place_of(device, ready);
+    let outcome = transmit::transmit_step_in(starts, cells, h, &mut place, buffer, output);
+    words::put_place(device, ready, place);
+    answer::put(answer, outcome)
 }

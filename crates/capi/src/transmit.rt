@@ -44,12 +44,10 @@ pub extern "C" fn dma_tx_prefill<'a>(
     ensures answer_after { answer.new ≡ said_in answer.old (counted_said (prefill_of (lent_ring (has_room answer.old) head.old starts.now cells.now) (length buffer.old) (length «data».now)).answer) }
 {
     let ready = answer::has_room(answer);
-    let h = words::head_of(head, ready);
-    let m = prefill::prefill_in(starts, cells, h, buffer, data);
-    let after = m.head;
-    let outcome = m.answer;
-    words::put_head(head, ready, after);
-    answer::put(answer, answer::counted(outcome))
+    let mut h = words::head_of(head, ready);
+    let outcome = prefill::prefill_in(starts, cells, &mut h, buffer, data);
+    words::put_head(head, ready, h);
+    answer::put(answer, outcome)
 }
 
 // Before `prepare`. answer: the place and the length of the part on offer.
@@ -85,12 +83,10 @@ pub extern "C" fn dma_tx_commit_prefill<'a>(
     ensures answer_after { answer.new ≡ said_in answer.old (counted_said (prefill_commit_of (lent_ring (has_room answer.old) head.old starts.now cells.now) len k).answer) }
 {
     let ready = answer::has_room(answer);
-    let h = words::head_of(head, ready);
-    let m = prefill::prefill_commit_in(starts, cells, h, len, k);
-    let after = m.head;
-    let outcome = m.answer;
-    words::put_head(head, ready, after);
-    answer::put(answer, answer::counted(outcome))
+    let mut h = words::head_of(head, ready);
+    let outcome = prefill::prefill_commit_in(starts, cells, &mut h, len, k);
+    words::put_head(head, ready, h);
+    answer::put(answer, outcome)
 }
 
 // Links up all the records, and hands those with prefilled bytes to the device.
@@ -105,11 +101,9 @@ pub extern "C" fn dma_tx_prepare(
     ensures head_after { head.new ≡ head_now true head.old (head_of (prepare_of (lent_ring true head.old starts.now cells.old) len).ring) }
     ensures value { result ≡ done_number (prepare_of (lent_ring true head.old starts.now cells.old) len).answer }
 {
-    let h = words::head_of(head, true);
-    let m = prepare::prepare_in(starts, cells, h, len);
-    let after = m.head;
-    let outcome = m.answer;
-    words::put_head(head, true, after);
+    let mut h = words::head_of(head, true);
+    let outcome = prepare::prepare_in(starts, cells, &mut h, len);
+    words::put_head(head, true, h);
     answer::done(outcome)
 }
 
@@ -128,7 +122,7 @@ pub extern "C" fn dma_tx_available_bytes<'a>(
     let ready = answer::has_room(answer);
     let h = words::head_of(head, ready);
     let outcome = in_place::available_in(starts, cells, h, len);
-    answer::put(answer, answer::counted(outcome))
+    answer::put(answer, outcome)
 }
 
 // answer: the bytes accepted.
@@ -148,12 +142,10 @@ pub extern "C" fn dma_tx_push(
     ensures answer_after { answer.new ≡ said_in answer.old (counted_said (push_of (lent_ring (has_room answer.old) head.old starts.now cells.old) (length buffer.old) (length «data».now)).answer) }
 {
     let ready = answer::has_room(answer);
-    let h = words::head_of(head, ready);
-    let m = in_place::push_in(starts, cells, h, buffer, data);
-    let after = m.head;
-    let outcome = m.answer;
-    words::put_head(head, ready, after);
-    answer::put(answer, answer::counted(outcome))
+    let mut h = words::head_of(head, ready);
+    let outcome = in_place::push_in(starts, cells, &mut h, buffer, data);
+    words::put_head(head, ready, h);
+    answer::put(answer, outcome)
 }
 
 // answer: the place and the length of the part on offer.
@@ -190,12 +182,10 @@ pub extern "C" fn dma_tx_commit(
     ensures answer_after { answer.new ≡ said_in answer.old (counted_said (commit_of (lent_ring (has_room answer.old) head.old starts.now cells.old) len k).answer) }
 {
     let ready = answer::has_room(answer);
-    let h = words::head_of(head, ready);
-    let m = in_place::commit_in(starts, cells, h, len, k);
-    let after = m.head;
-    let outcome = m.answer;
-    words::put_head(head, ready, after);
-    answer::put(answer, answer::counted(outcome))
+    let mut h = words::head_of(head, ready);
+    let outcome = in_place::commit_in(starts, cells, &mut h, len, k);
+    words::put_head(head, ready, h);
+    answer::put(answer, outcome)
 }
 
 // answer: the bytes accepted.
@@ -214,10 +204,8 @@ pub extern "C" fn dma_tx_advance(
     ensures answer_after { answer.new ≡ said_in answer.old (counted_said (advance_of (lent_ring (has_room answer.old) head.old starts.now cells.old) len k).answer) }
 {
     let ready = answer::has_room(answer);
-    let h = words::head_of(head, ready);
-    let m = in_place::advance_in(starts, cells, h, len, k);
-    let after = m.head;
-    let outcome = m.answer;
-    words::put_head(head, ready, after);
-    answer::put(answer, answer::counted(outcome))
+    let mut h = words::head_of(head, ready);
+    let outcome = in_place::advance_in(starts, cells, &mut h, len, k);
+    words::put_head(head, ready, h);
+    answer::put(answer, outcome)
 }

@@ -1,6 +1,6 @@
 // The words in which a ring stores its records: a start for each record, and the cells, a block for each other field. A field is
 // read and written here alone, one cell at a time, in the Rust's names. A number that is no record's changes nothing.
-ghost use Rattle.std.specs.Prelude.{◌≡◌, ◌<◌, true};
+ghost use Rattle.std.specs.Prelude.{◌≡◌, ◌<◌, if◌then◌else◌, Some, None};
 ghost use Rattle.descriptors.specs.Cells.{cell, put, numbered, next_cell, owner_of, eof_of, next_of, owner_cell, eof_cell, record_at, start_at, put_start, put_size, put_length, put_next, put_owner, put_eof, put_record};
 
 use crate::record::{DmaDescriptor, LIMIT, Owner};
@@ -8,9 +8,6 @@ use crate::record::{DmaDescriptor, LIMIT, Owner};
 pub const BLOCKS: usize = 5;
 
 pub const CELLS: usize = BLOCKS * LIMIT;
-
-// The number that no cell holds as a next.
-const UNNUMBERED: u16 = 65535;
 
 const SIZE: usize = 0;
 
@@ -22,70 +19,47 @@ const OWNER: usize = 3;
 
 const EOF: usize = 4;
 
-fn wide(x: u16) -> usize
-    ensures { (result ≡ x) × (result < 65536) }
-{
-    x as usize
-}
-
 // Cell i of a block.
 fn cell(w: &[u16], block: usize, i: usize) -> usize
     ensures { (result ≡ cell block w.now i) × (result < 65536) }
 {
-    if BLOCKS <= block {
+    if BLOCKS <= block || LIMIT <= i {
         return 0;
     }
-    if LIMIT <= i {
-        return 0;
+    match w.get(LIMIT * block + i) {
+        Some(c) => usize::from(*c),
+        None => 0,
     }
-    let at = LIMIT * block + i;
-    if w.len() <= at {
-        return 0;
-    }
-    wide(w[at])
 }
 
 // The one store.
+#[tactic(auto, unfolding(crate::specs::Cells::put))]
 fn put(w: &mut [u16], block: usize, i: usize, v: u16)
     ensures { w.new ≡ put block w.old i v }
 {
-    if w.len() != CELLS {
-        return;
-    }
-    if BLOCKS <= block {
-        return;
-    }
-    if LIMIT <= i {
-        return;
-    }
-    w[LIMIT * block + i] = v;
-}
-
-fn owner_cell(owner: Owner) -> u16
-    ensures { result ≡ owner_cell owner }
-{
-    match owner {
-        Owner::Cpu => 0,
-        Owner::Dma => 1,
+    if w.len() == CELLS && block < BLOCKS && i < LIMIT {
+        w[LIMIT * block + i] = v;
     }
 }
 
-fn is_numbered(next: Option<u16>) -> bool
-    ensures { result ≡ numbered next }
+impl From<Owner> for u16 {
+    ghost from_gives = { λ owner c. c ≡ owner_cell owner };
+
+    fn from(owner: Owner) -> u16 {
+        match owner {
+            Owner::Cpu => 0,
+            Owner::Dma => 1,
+        }
+    }
+}
+
+// The cell of a next, if one can hold it.
+fn next_cell(next: Option<u16>) -> Option<u16>
+    ensures { result ≡ (if numbered next then Some (next_cell next) else None) }
 {
     match next {
-        None => true,
-        Some(j) => j < UNNUMBERED,
-    }
-}
-
-fn next_cell(next: Option<u16>) -> u16
-    requires { numbered next ≡ true }
-    ensures { result ≡ next_cell next }
-{
-    match next {
-        None => 0,
-        Some(j) => j + 1,
+        None => Some(0),
+        Some(j) => j.checked_add(1),
     }
 }
 
@@ -101,10 +75,10 @@ pub struct Words {
 pub fn start_of(s: &[u32], i: usize) -> u32
     ensures { result ≡ start_at s.now i }
 {
-    if s.len() <= i {
-        return 0;
+    match s.get(i) {
+        Some(start) => *start,
+        None => 0,
     }
-    s[i]
 }
 
 pub fn size_of(w: &[u16], i: usize) -> usize
@@ -122,10 +96,10 @@ pub fn length_of(w: &[u16], i: usize) -> usize
 pub fn owner_of(w: &[u16], i: usize) -> Owner
     ensures { result ≡ owner_of (cell 3 w.now i) }
 {
-    if cell(w, OWNER, i) == 0 {
-        return Owner::Cpu;
+    match cell(w, OWNER, i) {
+        0 => Owner::Cpu,
+        _ => Owner::Dma,
     }
-    Owner::Dma
 }
 
 pub fn suc_eof_of(w: &[u16], i: usize) -> bool
@@ -137,11 +111,10 @@ pub fn suc_eof_of(w: &[u16], i: usize) -> bool
 pub fn next_of(w: &[u16], i: usize) -> Option<u16>
     ensures { result ≡ next_of (cell 2 w.now i) }
 {
-    let c = cell(w, NEXT, i);
-    if c == 0 {
-        return None;
+    match cell(w, NEXT, i) {
+        0 => None,
+        c => Some((c - 1) as u16),
     }
-    Some((c - 1) as u16)
 }
 
 // ---- a record's fields, written
@@ -175,14 +148,14 @@ pub fn set_suc_eof(w: &mut [u16], i: usize, eof: bool)
 pub fn set_owner(w: &mut [u16], i: usize, owner: Owner)
     ensures { w.new ≡ put_owner w.old i owner }
 {
-    put(w, OWNER, i, owner_cell(owner));
+    put(w, OWNER, i, u16::from(owner));
 }
 
 pub fn set_next(w: &mut [u16], i: usize, next: Option<u16>)
     ensures { w.new ≡ put_next w.old i next }
 {
-    if is_numbered(next) {
-        put(w, NEXT, i, next_cell(next));
+    if let Some(c) = next_cell(next) {
+        put(w, NEXT, i, c);
     }
 }
 
@@ -190,8 +163,8 @@ pub fn set_next(w: &mut [u16], i: usize, next: Option<u16>)
 pub fn link_to(w: &mut [u16], i: usize, to: usize)
     ensures { w.new ≡ put_next w.old i (Some to) }
 {
-    if to < 65535 {
-        set_next(w, i, Some(to as u16));
+    if let Ok(to) = u16::try_from(to) {
+        set_next(w, i, Some(to));
     }
 }
 

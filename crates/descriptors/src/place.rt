@@ -7,24 +7,19 @@ pub fn before(n: usize, i: usize) -> usize
     ensures { result ≡ before n i }
 {
     if i != 0 {
-        return i - 1;
+        i - 1
+    } else {
+        n.saturating_sub(1)
     }
-    if n == 0 {
-        return 0;
-    }
-    n - 1
 }
 
 // The record after i: the first one after the last.
 pub fn after(n: usize, i: usize) -> usize
     ensures { result ≡ after n i }
 {
-    if n <= i {
-        return 0;
+    if i < n.saturating_sub(1) {
+        i + 1
+    } else {
+        0
     }
-    let next = i + 1;
-    if next < n {
-        return next;
-    }
-    0
 }

@@ -54,7 +54,7 @@ fn starts_ok(s: &[u32], n: usize, chunk: usize) -> bool
         if s[i] != start {
             ok = false;
         }
-        start = std::num::wrapping_add_u32(s[i], step);
+        start = s[i].wrapping_add(step);
     }
     ok
 }
@@ -65,9 +65,10 @@ fn scan_end(n: usize, chunk: usize, last: usize) -> usize
     ensures { result ≡ (if nat_eq last chunk then n else n - 1) }
 {
     if last == chunk {
-        return n;
+        n
+    } else {
+        n - 1
     }
-    n - 1
 }
 
 fn sizes_ok(w: &[u16], n: usize, chunk: usize, last: usize) -> bool
@@ -82,10 +83,7 @@ fn sizes_ok(w: &[u16], n: usize, chunk: usize, last: usize) -> bool
             ok = false;
         }
     }
-    if w[n - 1] != last as u16 {
-        return false;
-    }
-    ok
+    ok && w[n - 1] == last as u16
 }
 
 fn lengths_ok(w: &[u16], n: usize) -> bool
@@ -117,40 +115,23 @@ fn nexts_ok(w: &[u16], n: usize) -> bool
 
 // ---- sound
 
+#[tactic(auto, unfolding(crate::specs::Cells::are_records, crate::specs::Cells::are_cells))]
 pub fn are_records<'a>(s: &'a [u32], w: &'a [u16]) -> bool
     ensures { result ≡ are_records s.now w.now }
 {
-    if s.len() != LIMIT {
-        return false;
-    }
-    if w.len() != CELLS {
-        return false;
-    }
-    marks_ok(w)
+    s.len() == LIMIT && w.len() == CELLS && marks_ok(w)
 }
 
 fn offset_in(cpu: bool, length: usize, offset: usize) -> bool
     ensures { result ≡ (offset == 0 || (cpu && nat_lt offset length)) }
 {
-    if offset == 0 {
-        return true;
-    }
-    if !cpu {
-        return false;
-    }
-    offset < length
+    offset == 0 || (cpu && offset < length)
 }
 
 fn offset_out(cpu: bool, size: usize, offset: usize) -> bool
     ensures { result ≡ (nat_lt offset size && (offset == 0 || cpu)) }
 {
-    if size <= offset {
-        return false;
-    }
-    if offset == 0 {
-        return true;
-    }
-    cpu
+    offset < size && (offset == 0 || cpu)
 }
 
 fn offset_ok(w: &[u16], dir: TransferDirection, i: usize, offset: usize) -> bool
@@ -171,19 +152,14 @@ pub fn judge_split<'a>(s: &'a [u32], w: &'a [u16], h: Head, len: usize) -> Resul
     let Ok(Split { chunk, rest }) = split::split_of(n, len) else {
         return Err(DmaBufError::BadState);
     };
-    if !are_records(s, w) {
-        return Err(DmaBufError::BadState);
+    if are_records(s, w)
+        && starts_ok(s, n, chunk)
+        && sizes_ok(w, n, chunk, chunk + rest)
+        && h.pre_filled <= len
+    {
+        return Ok(());
     }
-    if !starts_ok(s, n, chunk) {
-        return Err(DmaBufError::BadState);
-    }
-    if !sizes_ok(w, n, chunk, chunk + rest) {
-        return Err(DmaBufError::BadState);
-    }
-    if len < h.pre_filled {
-        return Err(DmaBufError::BadState);
-    }
-    Ok(())
+    Err(DmaBufError::BadState)
 }
 
 // What every other call asks for first.
@@ -199,19 +175,10 @@ pub fn judge<'a>(
     judge_split(s, w, h, len)?;
     let n = h.count;
     let i = h.descriptor_idx;
-    if !lengths_ok(w, n) {
-        return Err(DmaBufError::BadState);
+    if lengths_ok(w, n) && nexts_ok(w, n) && i < n && offset_ok(w, dir, i, h.descriptor_offset) {
+        return Ok(());
     }
-    if !nexts_ok(w, n) {
-        return Err(DmaBufError::BadState);
-    }
-    if n <= i {
-        return Err(DmaBufError::BadState);
-    }
-    if !offset_ok(w, dir, i, h.descriptor_offset) {
-        return Err(DmaBufError::BadState);
-    }
-    Ok(())
+    Err(DmaBufError::BadState)
 }
 
 // ---- new
@@ -225,15 +192,17 @@ fn fresh(n: usize) -> Head
     }
 }
 
+#[tactic(
+    auto,
+    using(crate::specs::laws::Updates::up_none, crate::specs::laws::Updates::up_more),
+    unfolding(crate::specs::Stores::lay_start, crate::specs::Split::start_of)
+)]
 fn lay_starts(s: &mut [u32], n: usize, len: usize, chunk: usize)
     requires { (n ≤ limit) × (chunk ≤ 4095) × (chunk ≡ len / n) }
     ensures { s.new ≡ up_to (lay_start n len) n s.old }
 {
-    let step = chunk as u32;
-    let mut start: u32 = 0;
     for i in 0..n {
-        cells::set_buffer(s, i, start);
-        start += step;
+        cells::set_buffer(s, i, (i * chunk) as u32);
     }
 }
 
@@ -251,11 +220,17 @@ fn size_at(n: usize, i: usize, chunk: usize, rest: usize) -> u16
     ensures { result ≡ (if nat_eq (i + 1) n then chunk + rest else chunk) }
 {
     if i + 1 == n {
-        return (chunk + rest) as u16;
+        (chunk + rest) as u16
+    } else {
+        chunk as u16
     }
-    chunk as u16
 }
 
+#[tactic(
+    auto,
+    using(crate::specs::laws::Updates::up_none, crate::specs::laws::Updates::up_more),
+    unfolding(crate::specs::Stores::lay_cells, crate::specs::Split::size_of)
+)]
 fn lay_sizes(w: &mut [u16], dir: TransferDirection, n: usize, len: usize, chunk: usize, rest: usize)
     requires { (n ≤ limit) × (chunk + rest ≤ 4095) × (chunk ≡ len / n) × (rest ≡ len % n) }
     ensures { w.new ≡ up_to (lay_cells dir n len) n w.old }
@@ -291,5 +266,5 @@ pub fn new_in(
 pub fn between(earlier: u32, later: u32) -> u32
     ensures { result ≡ between_of earlier later }
 {
-    std::num::wrapping_sub_u32(later, earlier)
+    later.wrapping_sub(earlier)
 }

@@ -16,6 +16,7 @@ pub struct Split {
 }
 
 // How len bytes are split over n records: chunk bytes each, and the last one has the rest too.
+#[tactic(auto, unfolding(crate::specs::Split::split_of))]
 pub fn split_of(n: usize, len: usize) -> Result<Split, DmaBufError>
     ensures { result ≡ split_of n len }
 {

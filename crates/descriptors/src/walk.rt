@@ -28,6 +28,7 @@ pub fn span(w: &[u16], dir: TransferDirection, i: usize) -> usize
 }
 
 // What the CPU-owned records from record i on count for, round a ring of n.
+#[tactic(auto, using(crate::specs::laws::Walks::run_steps))]
 pub fn run_bytes(w: &[u16], dir: TransferDirection, n: usize, i: usize) -> usize
     ensures { result ≡ (if nat_le n limit then run_bytes dir (record_at [] w.now) n n i else 0) }
 {
@@ -47,6 +48,7 @@ pub fn run_bytes(w: &[u16], dir: TransferDirection, n: usize, i: usize) -> usize
 }
 
 // Where k bytes lead from (i, o) on.
+#[tactic(auto, using(crate::specs::laws::Walks::walk_steps))]
 pub fn walk_over(w: &[u16], dir: TransferDirection, n: usize, i: usize, o: usize, k: usize) -> Moved
     ensures { result ≡ walk_in dir (record_at [] w.now) n (record { at = i; offset = o; rest = k; back = 0 }) }
 {
@@ -78,6 +80,7 @@ pub fn walk_over(w: &[u16], dir: TransferDirection, n: usize, i: usize, o: usize
 }
 
 // Record idx goes back to the device, in the Rust's order of stores.
+#[tactic(auto, unfolding(crate::specs::Stores::hand_cells))]
 fn give_back(w: &mut [u16], n: usize, idx: usize)
     ensures { w.new ≡ hand_cells TransferDirection.In n idx w.old }
 {
@@ -90,6 +93,7 @@ fn give_back(w: &mut [u16], n: usize, idx: usize)
 }
 
 // Record d, filled, goes to the device.
+#[tactic(auto, unfolding(crate::specs::Stores::hand_cells))]
 fn enqueue(w: &mut [u16], n: usize, d: usize)
     ensures { w.new ≡ hand_cells TransferDirection.Out n d w.old }
 {
@@ -112,6 +116,7 @@ fn hand_over_one(w: &mut [u16], dir: TransferDirection, n: usize, i: usize)
 }
 
 // The records from i on go to the device, g of them, round a ring of n.
+#[tactic(auto, using(crate::specs::laws::Walks::turns_done, crate::specs::laws::Walks::turns_go), unfolding(crate::specs::Stores::hand_all))]
 pub fn hand_over(w: &mut [u16], dir: TransferDirection, n: usize, i: usize, g: usize)
     ensures { w.new ≡ hand_all dir n g i w.old }
 {
@@ -137,6 +142,7 @@ fn set_following(w: &mut [u16], n: usize, i: usize)
     }
 }
 
+#[tactic(auto, unfolding(crate::specs::Stores::link_cells))]
 fn link_in(w: &mut [u16], n: usize, i: usize)
     requires { i < n }
     ensures { w.new ≡ link_cells TransferDirection.In n i w.old }
@@ -147,6 +153,7 @@ fn link_in(w: &mut [u16], n: usize, i: usize)
     cells::set_length(w, i, 0);
 }
 
+#[tactic(auto, unfolding(crate::specs::Stores::link_cells))]
 fn link_out(w: &mut [u16], n: usize, i: usize)
     requires { i < n }
     ensures { w.new ≡ link_cells TransferDirection.Out n i w.old }
@@ -166,6 +173,11 @@ fn link_one(w: &mut [u16], dir: TransferDirection, n: usize, i: usize)
 }
 
 // Links up all the records, but not in a circle.
+#[tactic(
+    auto,
+    using(crate::specs::laws::Updates::up_none, crate::specs::laws::Updates::up_more),
+    unfolding(crate::specs::Stores::link_all)
+)]
 pub fn link_all(w: &mut [u16], dir: TransferDirection, n: usize)
     ensures { w.new ≡ link_all dir n w.old }
 {

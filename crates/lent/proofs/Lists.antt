@@ -32,7 +32,7 @@ pub ready-known : (n len : ℕ) → (Ok tt) ≡ split_done (split_of n len) → 
 ready-known n len h = go (split_of n len) refl h
   where
     go : (s : Answer Split) → split_of n len ≡ s → (Ok tt) ≡ split_done s → (n ≤ limit) × (len / n + len % n ≤ most)
-    go (Ok x) e p = let k = parts-known n len x.chunk x.rest e in (k.facts.many, k.facts.last)
+    go (Ok x) e p = let k = parts-known n len x e in (k.facts.many, k.facts.last)
     go (Err x) e p = not-both (sym (ap is_ready p))
 
 -- where the split is answered, every record has its part

@@ -1,11 +1,11 @@
 -- "the receive cursor lent and changed in place by consume": the by-value consume, with the ring's cursor beside it.
 use Rattle.std.specs.Prelude.{ℕ, Ok, Err}
-use Rattle.descriptors.specs.Ring.{ring_of}
+use Rattle.descriptors.specs.Ring.{kept_of, ring_of}
 use Rattle.descriptors.specs.declared.ring.Head.{Head}
 use Rattle.rx_stream.specs.Receive.{consume_of}
-use Rattle.rx_stream.specs.Faces.{consumed_of}
+use Rattle.rx_stream.specs.Faces.{view_now}
 use Rattle.rx_stream.specs.declared.view.DmaRxStreamBufView.{DmaRxStreamBufView}
-use Rattle.rx_stream.specs.declared.view.Consumed.{Consumed}
+use Rattle.descriptors.specs.declared.ring.Kept.{Kept}
 use Rattle.rx_stream.specs.declared.Took.{Took}
 use Rattle.lent.specs.declared.cursor.Cursor.{Cursor}
 use Rattle.descriptors.specs.Refusal.{Answer}
@@ -25,12 +25,12 @@ abbrev pub cursor_of : Head → Cursor
 cursor_of h = record { «record» = h.descriptor_idx; offset = h.descriptor_offset }
 
 -- a consume by value
-abbrev pub consume_by : DmaRxStreamBufView → ℕ → ℕ → Consumed
-consume_by v len k = consumed_of v (consume_of (ring_of v.starts v.cells v.head) len k)
+abbrev pub consume_by : DmaRxStreamBufView → ℕ → ℕ → Kept DmaRxStreamBufView Took
+consume_by v len k = kept_of (view_now v) (consume_of (ring_of v.starts v.cells v.head) len k)
 
 -- "A refusal returns its number and changes nothing": the ring v then comes back as it was given, and the cursor c stays. Otherwise the
 -- ring that the consume d leaves comes back, and the cursor is that ring's
-abbrev pub stepped_by : DmaRxStreamBufView → Cursor → Consumed → Answer Took → Stepped
+abbrev pub stepped_by : DmaRxStreamBufView → Cursor → Kept DmaRxStreamBufView Took → Answer Took → Stepped
 stepped_by v c d (Ok x) = record { cursor = cursor_of d.ring.head; done = d }
 stepped_by v c d (Err e) = record { cursor = c; done = record { ring = v; answer = Err e } }
 

@@ -4,7 +4,7 @@ use Rattle.descriptors.specs.Ring.{Outcome, new_of}
 use Rattle.descriptors.specs.declared.record.DmaDescriptor.{DmaDescriptor}
 use Rattle.descriptors.specs.declared.record.TransferDirection.{TransferDirection}
 use Rattle.descriptors.specs.declared.refusal.DmaBufError.TheVariants.{TooManyDescriptors}
-use Rattle.lent.specs.declared.list.Laid.{Laid}
+use Rattle.descriptors.specs.declared.ring.Kept.{Kept}
 use Rattle.descriptors.specs.Refusal.{Answer}
 use Rattle.lent.specs.declared.list.Records.{Records}
 
@@ -15,9 +15,12 @@ abbrev pub room : ℕ
 room = 65
 
 -- the same over the first n of some records by value; more than there are is 4
-abbrev pub new_first : TransferDirection → List DmaDescriptor → ℕ → ℕ → Laid
+abbrev pub new_first : TransferDirection → Records → ℕ → ℕ → Kept Records Unit
 new_first dir ds n len =
-    record { list = (new_over dir (take n ds) len).ring.descriptors ++ drop n ds; answer = (new_over dir (take n ds) len).answer }
+    record {
+      ring = record { list = (new_over dir (take n ds.list) len).ring.descriptors ++ drop n ds.list };
+      answer = (new_over dir (take n ds.list) len).answer;
+    }
 
-abbrev pub new_with : TransferDirection → Records → ℕ → ℕ → Laid
-new_with dir ds n len = cond (ltb room n) record { list = ds.list; answer = Err TooManyDescriptors } (new_first dir ds.list n len)
+abbrev pub new_with : TransferDirection → Records → ℕ → ℕ → Kept Records Unit
+new_with dir ds n len = cond (ltb room n) record { ring = ds; answer = Err TooManyDescriptors } (new_first dir ds n len)

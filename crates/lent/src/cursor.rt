@@ -2,49 +2,39 @@
 ghost use Rattle.std.specs.Prelude.{◌≡◌};
 ghost use Rattle.lent.specs.Cursor.{consume_from};
 
-use descriptors::ring::Head;
+use descriptors::ring::{Head, Kept};
 use rx_stream::Took;
-use rx_stream::view::{Consumed, DmaRxStreamBufView};
+use rx_stream::view::DmaRxStreamBufView;
 
 // The receive cursor by itself: a record's number and an offset in it.
-#[derive(Drop)]
+#[derive(Clone, Copy, Debug, PartialEq, Eq)]
 pub struct Cursor {
     pub record: usize,
     pub offset: usize,
 }
 
 // What a consume from a cursor leaves: the cursor and the answer.
-#[derive(Drop)]
+#[derive(Clone, Copy, Debug)]
 pub struct Stepped {
     pub cursor: Cursor,
-    pub done: Consumed,
+    pub done: Kept<DmaRxStreamBufView, Took>,
 }
 
-// A consume by the ring with its cursor at (i, o). Refused, it leaves that cursor and the ring as it came.
-fn consume_from(i: usize, o: usize, ring: DmaRxStreamBufView, len: usize, k: usize) -> Stepped
-    ensures { result ≡ consume_from ring (record { «record» = i; offset = o }) len k }
+// A consume by the ring with its cursor at `at`. Refused, it leaves that cursor and the ring as it came.
+#[tactic(auto, unfolding(crate::specs::Cursor::consume_from))]
+fn consume_from(at: Cursor, ring: DmaRxStreamBufView, len: usize, k: usize) -> Stepped
+    ensures { result ≡ consume_from ring at len k }
 {
-    let starts = ring.starts;
-    let cells = ring.cells;
-    let h = ring.head;
     let head = Head {
-        count: h.count,
-        descriptor_idx: i,
-        descriptor_offset: o,
-        tally: h.tally,
-        pre_filled: h.pre_filled,
+        descriptor_idx: at.record,
+        descriptor_offset: at.offset,
+        ..ring.head
     };
-    let standing = DmaRxStreamBufView {
-        starts,
-        cells,
-        head,
-    };
+    let standing = DmaRxStreamBufView { head, ..ring };
     let done = standing.consume(len, k);
-    let answer = done.answer;
-    match answer {
-        Ok(Took { taken: _, back: _ }) => {
-            let left = done.ring;
-            let now = left.head;
+    match done.answer {
+        Ok(_) => {
+            let now = done.ring.head;
             let cursor = Cursor {
                 record: now.descriptor_idx,
                 offset: now.descriptor_offset,
@@ -52,28 +42,26 @@ fn consume_from(i: usize, o: usize, ring: DmaRxStreamBufView, len: usize, k: usi
             Stepped { cursor, done }
         }
         Err(e) => {
-            let cursor = Cursor {
-                record: i,
-                offset: o,
-            };
-            let done = Consumed {
-                ring,
-                answer: Err(e),
-            };
-            Stepped { cursor, done }
+            let answer = Err(e);
+            Stepped {
+                cursor: at,
+                done: Kept { ring, answer },
+            }
         }
     }
 }
 
 // Takes k bytes from the lent cursor on, and leaves the cursor where the walk ends: after a refusal, where it was.
-pub fn consume_at(c: &mut Cursor, ring: DmaRxStreamBufView, len: usize, k: usize) -> Consumed
+pub fn consume_at(
+    c: &mut Cursor,
+    ring: DmaRxStreamBufView,
+    len: usize,
+    k: usize,
+) -> Kept<DmaRxStreamBufView, Took>
     ensures { (result ≡ (consume_from ring c.old len k).done) × (c.new ≡ (consume_from ring c.old len k).cursor) }
 {
-    let record = c.record;
-    let offset = c.offset;
-    let step = consume_from(record, offset, ring, len, k);
-    c.record = step.cursor.record;
-    c.offset = step.cursor.offset;
+    let step = consume_from(*c, ring, len, k);
+    *c = step.cursor;
     step.done
 }
 

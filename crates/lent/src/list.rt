@@ -7,20 +7,18 @@ ghost use Rattle.lent.specs.List.{new_over, new_first, new_with, room};
 
 use descriptors::record::{DmaDescriptor, LIMIT, TransferDirection};
 use descriptors::refusal::DmaBufError;
+use descriptors::ring::Kept;
 use descriptors::split;
-use descriptors::split::Split;
 
 // Whether `new` takes len bytes over n records, or why not.
 fn judge_new(n: usize, len: usize) -> Result<(), DmaBufError>
     ensures { result ≡ split_done (split_of n len) }
 {
-    let parts = split::split_of(n, len);
-    match parts {
-        Ok(Split { chunk: _, rest: _ }) => Ok(()),
-        Err(e) => Err(e),
-    }
+    split::split_of(n, len)?;
+    Ok(())
 }
 
+#[tactic(auto, unfolding(descriptors::specs::Split::size_of))]
 fn size_at(n: usize, len: usize, i: usize) -> u16
     requires { (n ≤ limit) × (len / n + len % n ≤ most) × (i < n) }
     ensures { result ≡ size_of n len i }
@@ -34,19 +32,16 @@ fn size_at(n: usize, len: usize, i: usize) -> u16
 fn placed(d: DmaDescriptor, buffer: u32, size: u16, length: u16) -> DmaDescriptor
     ensures { result ≡ with_length length (with_size size (with_buffer buffer d)) }
 {
-    let owner = d.owner;
-    let next = d.next;
     DmaDescriptor {
         buffer,
         size,
         length,
-        suc_eof: d.suc_eof,
-        owner,
-        next,
+        ..d
     }
 }
 
 // Record i of n, with its part of the buffer's len bytes.
+#[tactic(auto, unfolding(descriptors::specs::Split::start_of))]
 fn split_record(
     dir: TransferDirection,
     n: usize,
@@ -67,56 +62,49 @@ fn split_record(
 }
 
 // Each record of the list gets its part of the buffer's len bytes, or none is written and the refusal is answered.
-pub fn new_over(dir: TransferDirection, ds: &mut [DmaDescriptor], len: usize) -> Result<(), DmaBufError>
+pub fn new_over(
+    dir: TransferDirection,
+    ds: &mut [DmaDescriptor],
+    len: usize,
+) -> Result<(), DmaBufError>
     ensures { (result ≡ (new_over dir ds.old len).answer) × (ds.new ≡ (new_over dir ds.old len).ring.descriptors) }
 {
     let n = ds.len();
-    let answer = judge_new(n, len);
-    let Ok(()) = answer else {
-        return answer;
-    };
-    let mut i: usize = 0;
-    while i < n {
-        let d = ds[i];
-        ds[i] = split_record(dir, n, len, i, d);
-        i += 1;
+    judge_new(n, len)?;
+    for i in 0..n {
+        ds[i] = split_record(dir, n, len, i, ds[i]);
     }
-    answer
+    Ok(())
 }
 
 // One record more than a ring has.
 pub const ROOM: usize = LIMIT + 1;
 
-#[derive(Drop)]
+#[derive(Clone, Copy, Debug, PartialEq, Eq)]
 pub struct Records {
     pub list: [DmaDescriptor; ROOM],
 }
 
-// What `new` leaves of the records, and what it answers.
-#[derive(Drop)]
-pub struct Laid {
-    pub list: [DmaDescriptor; ROOM],
-    pub answer: Result<(), DmaBufError>,
-}
-
 // `new` over the first n of some records by value: they are lent for the call.
-fn new_first(dir: TransferDirection, ds: Records, n: usize, len: usize) -> Laid
+fn new_first(dir: TransferDirection, ds: Records, n: usize, len: usize) -> Kept<Records, ()>
     requires { n ≤ room }
-    ensures { result ≡ new_first dir ds.list n len }
+    ensures { result ≡ new_first dir ds n len }
 {
     let mut list = ds.list;
     let answer = new_over(dir, &mut list[..n], len);
-    Laid { list, answer }
+    Kept {
+        ring: Records { list },
+        answer,
+    }
 }
 
 // The same for every n. More records than there are is 4.
-pub fn new_with(dir: TransferDirection, ds: Records, n: usize, len: usize) -> Laid
+pub fn new_with(dir: TransferDirection, ds: Records, n: usize, len: usize) -> Kept<Records, ()>
     ensures { result ≡ new_with dir ds n len }
 {
     if ROOM < n {
-        let list = ds.list;
-        return Laid {
-            list,
+        return Kept {
+            ring: ds,
             answer: Err(DmaBufError::TooManyDescriptors),
         };
     }

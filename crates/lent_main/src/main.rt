@@ -2,26 +2,19 @@
 // answered and whether both answered and left the same.
 #![tactic(auto)]
 
+use descriptors::refusal::DmaBufError;
 use std::io;
 
-mod same; // same.rt: whether two answers, lists of words, heads are the same
 mod list; // list.rt: `new` over a lent list, and over words by value
 mod cursor; // cursor.rt: consume from a lent cursor, and from the ring's own
 
-fn say(rt: &impl Print, text: &[u8]) -> io::Result<()> {
-    rt.write_all(text)
+// A refusal's number, or 0.
+fn number<A: Drop>(answer: Result<A, DmaBufError>) -> u8 {
+    answer.err().map_or(0, |e| u8::from(e))
 }
 
-fn show(rt: &impl Print, n: usize) -> io::Result<()> {
-    say(rt, b" ")?;
-    print!(rt; "{n}")
-}
-
-fn verdict(rt: &impl Print, ok: bool) -> io::Result<()> {
-    if ok {
-        return say(rt, b": same\n");
-    }
-    say(rt, b": differs\n")
+fn verdict(same: bool) -> &'static str {
+    if same { "same" } else { "differs" }
 }
 
 fn main(rt: HostRuntime) -> io::Result<()> {

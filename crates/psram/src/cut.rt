@@ -12,10 +12,7 @@ use descriptors::refusal::DmaBufError;
 pub(crate) fn is_past(address: u32, length: usize) -> bool
     ensures { result ≡ ltb top (address + length) }
 {
-    if TOP < length {
-        return true;
-    }
-    TOP - length < address as usize
+    TOP < length || TOP - length < address as usize
 }
 
 // An outer part that is too short for the device takes a line more.
@@ -32,6 +29,7 @@ fn grown(size: usize, least: usize) -> usize
     size
 }
 
+#[tactic(auto, unfolding(crate::specs::Cut::head_of))]
 fn head_of(address: u32, length: usize, least: usize, bounce: usize) -> usize
     ensures { result ≡ head_of least bounce address length }
 {
@@ -41,6 +39,7 @@ fn head_of(address: u32, length: usize, least: usize, bounce: usize) -> usize
     grown((LINE - address as usize % LINE) % LINE, least)
 }
 
+#[tactic(auto, unfolding(crate::specs::Cut::plan_of, crate::specs::Cut::tail_of))]
 fn planned(address: u32, length: usize, least: usize, bounce: usize) -> Plan
     requires { Sides least bounce }
     ensures { result ≡ plan_of least bounce address length }
@@ -62,6 +61,7 @@ pub(crate) fn plan(address: u32, length: usize, chip: Chip) -> Plan
     planned(address, length, chip.least(), chip.bounce())
 }
 
+#[tactic(auto, unfolding(crate::specs::Cut::cut_of))]
 pub fn cut(address: u32, length: u32, chip: Chip) -> Result<Cut, DmaBufError>
     ensures { result ≡ cut_of chip address length }
 {

@@ -73,6 +73,7 @@ pub fn build_descriptor_list_for_psram(
 }
 
 // The same over records by value.
+#[tactic(auto, unfolding(crate::specs::List::built_of))]
 pub fn build_descriptor_list(
     d: DescriptorSet,
     address: u32,

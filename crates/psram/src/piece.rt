@@ -21,9 +21,10 @@ fn directs(middle: usize) -> usize
     requires { middle ≤ top }
     ensures { result ≡ directs middle }
 {
-    (middle + (PIECE - 1)) / PIECE
+    middle.div_ceil(PIECE)
 }
 
+#[tactic(auto, unfolding(crate::specs::Piece::pieces_of))]
 pub(crate) fn pieces(p: Plan) -> usize
     requires { bytes_of p ≤ top }
     ensures { result ≡ pieces_of p }
@@ -43,6 +44,7 @@ fn direct(p: Plan, j: usize) -> Held
     }
 }
 
+#[tactic(auto, unfolding(crate::specs::Piece::piece_of))]
 pub(crate) fn piece_at(p: Plan, i: usize) -> Result<Held, DmaBufError>
     requires { bytes_of p ≤ top }
     ensures { result ≡ piece_of p i }
@@ -69,6 +71,7 @@ pub(crate) fn piece_at(p: Plan, i: usize) -> Result<Held, DmaBufError>
 }
 
 // What a list of pieces is refused for; `held` says whether the lent words hold records.
+#[tactic(auto, unfolding(crate::specs::Piece::ready_of))]
 pub(crate) fn ready(
     held: bool,
     n: usize,
@@ -82,10 +85,7 @@ pub(crate) fn ready(
     if LIMIT < n {
         return Err(DmaBufError::TooManyDescriptors);
     }
-    if !held {
-        return Err(DmaBufError::BadState);
-    }
-    if store < 2 * chip.bounce() {
+    if !held || store < 2 * chip.bounce() {
         return Err(DmaBufError::BadState);
     }
     if is_past(address, length) {
@@ -95,7 +95,15 @@ pub(crate) fn ready(
 }
 
 // Where piece i of a range lies, as numbers.
-pub fn numbered(n: usize, address: u32, length: usize, chip: Chip, store: usize, i: usize) -> Result<Held, DmaBufError>
+#[tactic(auto, unfolding(crate::specs::Piece::numbered_of))]
+pub fn numbered(
+    n: usize,
+    address: u32,
+    length: usize,
+    chip: Chip,
+    store: usize,
+    i: usize,
+) -> Result<Held, DmaBufError>
     ensures { result ≡ numbered_of n address length chip store i }
 {
     ready(true, n, address, length, chip, store)?;

@@ -2,11 +2,13 @@
 -- head_of and cells_now, and what it answers is the outcome's answer; by value one struct holds both.
 use Rattle.std.specs.Prelude.{ℕ, ◌+◌, ◌-◌, ◌%◌, ◌^◌, List, []}
 use Rattle.descriptors.specs.Cells.{record_at, starts_now, cells_now}
-use Rattle.descriptors.specs.Ring.{Ring, head_of}
+use Rattle.descriptors.specs.Ring.{Ring, Outcome, head_of}
 use Rattle.descriptors.specs.Walk.{walk_in}
+use Rattle.descriptors.specs.Refusal.{Answer}
 use Rattle.descriptors.specs.declared.record.TransferDirection.TheVariants.{In}
 use Rattle.descriptors.specs.declared.cells.Words.{Words}
 use Rattle.descriptors.specs.declared.ring.Head.{Head}
+use Rattle.descriptors.specs.declared.ring.Kept.{Kept}
 use Rattle.descriptors.specs.declared.walk.Moved.{Moved}
 use Rattle.rx_stream.specs.declared.Took.{Took}
 use Rattle.rx_stream.specs.declared.buf.DmaRxStreamBuf.{DmaRxStreamBuf}

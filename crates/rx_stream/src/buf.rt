@@ -21,11 +21,23 @@ pub struct DmaRxStreamBuf {
 
 impl DmaRxStreamBuf {
     // Splits the buffer evenly over the first n records that the words show. After a refusal the words are as they were lent.
-    pub fn new(mut starts: [u32; LIMIT], mut cells: [u16; CELLS], n: usize, buffer: &[u8]) -> Kept<DmaRxStreamBuf, ()>
+    pub fn new(
+        mut starts: [u32; LIMIT],
+        mut cells: [u16; CELLS],
+        n: usize,
+        buffer: &[u8],
+    ) -> Kept<DmaRxStreamBuf, ()>
         ensures { result ≡ kept_of (buf_new starts cells) (new_of TransferDirection.In (records_of starts cells) n (length buffer.now)) }
     {
         let mut head = Head::default();
-        let answer = ring::new_in(TransferDirection::In, &mut starts, &mut cells, &mut head, n, buffer.len());
+        let answer = ring::new_in(
+            TransferDirection::In,
+            &mut starts,
+            &mut cells,
+            &mut head,
+            n,
+            buffer.len(),
+        );
         Kept {
             ring: DmaRxStreamBuf {
                 starts,
@@ -36,11 +48,13 @@ impl DmaRxStreamBuf {
         }
     }
 
-    // Consumes the buf, returning the words of its records.
+    // Consumes the buf, returning the words of its records. Here and below an array goes on by a variable: the borrow checker covers
+    // none that goes straight from field to field.
     pub fn split(self) -> Words
         ensures { result ≡ words_of self }
     {
-        let DmaRxStreamBuf { starts, cells, head: _ } = self;
+        let starts = self.starts;
+        let cells = self.cells;
         Words { starts, cells }
     }
 
@@ -56,14 +70,15 @@ impl DmaRxStreamBuf {
     pub fn into_view(self) -> DmaRxStreamBufView
         ensures { result ≡ view_of self }
     {
-        let DmaRxStreamBuf { starts, cells, head } = self;
+        let starts = self.starts;
+        let cells = self.cells;
         DmaRxStreamBufView {
             starts,
             cells,
             head: Head {
                 descriptor_idx: 0,
                 descriptor_offset: 0,
-                ..head
+                ..self.head
             },
         }
     }
@@ -71,11 +86,12 @@ impl DmaRxStreamBuf {
     pub fn from_view(view: DmaRxStreamBufView) -> Self
         ensures { result ≡ buf_of view }
     {
-        let DmaRxStreamBufView { starts, cells, head } = view;
+        let starts = view.starts;
+        let cells = view.cells;
         DmaRxStreamBuf {
             starts,
             cells,
-            head,
+            head: view.head,
         }
     }
 }

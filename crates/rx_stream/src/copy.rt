@@ -23,9 +23,7 @@ fn copy_part(src: &[u8], start: usize, dst: &mut [u8], at: usize, m: usize)
     requires { (start + m ≤ length src.now) × (at + m ≤ length dst.old) }
     ensures { dst.new ≡ paste dst.old at (drop start src.now) m }
 {
-    let end = start + m;
-    let to = at + m;
-    dst[at..to].copy_from_slice(&src[start..end]);
+    dst[at..at + m].copy_from_slice(&src[start..start + m]);
 }
 
 pub(crate) fn copy_run<'a>(s: &'a [u32], w: &'a [u16], h: Head, src: &[u8], dst: &mut [u8])

@@ -27,7 +27,12 @@ pub fn prepare_in(s: &[u32], w: &mut [u16], h: &mut Head, len: usize) -> Result<
 }
 
 // The number of bytes that are available to read.
-pub fn available_in<'a>(s: &'a [u32], w: &'a [u16], h: Head, len: usize) -> Result<usize, DmaBufError>
+pub fn available_in<'a>(
+    s: &'a [u32],
+    w: &'a [u16],
+    h: Head,
+    len: usize,
+) -> Result<usize, DmaBufError>
     ensures { result ≡ available_of (ring_of s.now w.now h) len }
 {
     ring::judge(TransferDirection::In, s, w, h, len)?;
@@ -75,7 +80,12 @@ pub fn peek_until_eof_in<'a, 'b>(s: &'b [u32], w: &'b [u16], h: Head, buffer: &'
 }
 
 // Why a peek of these words is empty, if it was refused.
-pub fn peek_refusal_in<'a>(s: &'a [u32], w: &'a [u16], h: Head, len: usize) -> Result<(), DmaBufError>
+pub fn peek_refusal_in<'a>(
+    s: &'a [u32],
+    w: &'a [u16],
+    h: Head,
+    len: usize,
+) -> Result<(), DmaBufError>
     ensures { result ≡ peek_refusal_of (ring_of s.now w.now h) len }
 {
     ring::judge(TransferDirection::In, s, w, h, len)
@@ -112,7 +122,13 @@ fn take_in(w: &mut [u16], h: &mut Head, k: usize) -> Took
 }
 
 // Consumes the first k bytes, or all there are, and gives fully consumed records back to the device.
-pub fn consume_in(s: &[u32], w: &mut [u16], h: &mut Head, len: usize, k: usize) -> Result<Took, DmaBufError>
+pub fn consume_in(
+    s: &[u32],
+    w: &mut [u16],
+    h: &mut Head,
+    len: usize,
+    k: usize,
+) -> Result<Took, DmaBufError>
     ensures w_after { w.new ≡ cells_now s.now w.old (consume_of (ring_of s.now w.old h.old) len k).ring.descriptors }
     ensures h_after { h.new ≡ head_of (consume_of (ring_of s.now w.old h.old) len k).ring }
     ensures value { result ≡ (consume_of (ring_of s.now w.old h.old) len k).answer }
@@ -125,13 +141,7 @@ pub fn consume_in(s: &[u32], w: &mut [u16], h: &mut Head, len: usize, k: usize) 
 fn idle(w: &[u16], i: usize, k: usize) -> bool
     ensures { result ≡ (k == 0 || (is_cpu (record_at [] w.now i).owner && (record_at [] w.now i).length == 0)) }
 {
-    if k == 0 {
-        return true;
-    }
-    if !cells::owner_of(w, i).is_cpu() {
-        return false;
-    }
-    cells::length_of(w, i) == 0
+    k == 0 || (cells::owner_of(w, i).is_cpu() && cells::length_of(w, i) == 0)
 }
 
 // Reads as much as possible into dst from the available bytes.

@@ -19,13 +19,7 @@ fn is_short(w: &[u16], i: usize) -> bool
 fn ends_with(w: &[u16], until_eof: bool, i: usize) -> bool
     ensures { result ≡ ends_with until_eof (record_at [] w.now i) }
 {
-    if is_short(w, i) {
-        return true;
-    }
-    if !until_eof {
-        return false;
-    }
-    cells::suc_eof_of(w, i)
+    is_short(w, i) || (until_eof && cells::suc_eof_of(w, i))
 }
 
 // How many bytes lie in one piece from the start of record i on.

@@ -1,189 +1,147 @@
 // Document 01's twelve rows, run: what the code answers to each, and whether that is what the row says.
 #![tactic(auto)]
 
-ghost use Rattle.std.specs.Prelude.{◌≡◌, ◌<◌, get_or};
+ghost use Rattle.std.specs.Prelude.{◌≡◌, ◌<◌};
 ghost use Rattle.descriptors.specs.Split.{split_of};
 ghost use Rattle.psram.specs.Cut.{cut_of};
-ghost use Rattle.table.specs.Rows.{rows, wide, count, at, same_as, answer_of, refused_answer, split_answer, cut_answer};
+ghost use Rattle.table.specs.Rows.{count, row_at, same_as, answer_of, split_answer, cut_answer};
 
 use descriptors::refusal::DmaBufError;
-use descriptors::split::Split;
-use descriptors::{refusal, split};
+use descriptors::split;
 use psram::chip::Chip;
 use psram::cut;
-use psram::plan::Cut;
-use std::io;
+use std::{fmt, io};
 
-const WIDE: usize = 7;
+// What a row asks for.
+#[derive(Clone, Copy, Debug, PartialEq, Eq)]
+pub enum Asked {
+    Split,
+    Cut(Chip),
+}
+
+impl fmt::Display for Asked {
+    fn fmt<W: fmt::Write>(&self, f: &mut fmt::Formatter<W>) -> fmt::Result {
+        match self {
+            Asked::Split => write!(f, "split"),
+            Asked::Cut(Chip::Ordinary) => write!(f, "cut ordinary"),
+            Asked::Cut(Chip::S2) => write!(f, "cut s2"),
+        }
+    }
+}
+
+// What is asked, of what, and the answer: the size of the first records and of the last, or head, middle and tail.
+#[derive(Clone, Copy, Debug, PartialEq, Eq)]
+pub struct Row {
+    pub asked: Asked,
+    pub a: u32,
+    pub b: u32,
+    pub answer: Result<[usize; 3], DmaBufError>,
+}
 
 const COUNT: usize = 12;
 
-// A row a line: what is asked, of what, and the answer.
-const ROWS: [u32; WIDE * COUNT] = [
-    0, 4, 3, 2, 0, 0, 0, 0, 4, 4, 0, 1, 1, 0, 0, 4, 11, 3, 0, 0, 0, 0, 4, 14, 0, 3, 5, 0, 0, 4, 15,
-    3, 0, 0, 0, 0, 4, 16377, 0, 4094, 4095, 0, 0, 4, 16378, 1, 0, 0, 0, 0, 4, 16380, 0, 4095, 4095,
-    0, 0, 4, 16381, 1, 0, 0, 0, 1, 13, 100, 0, 3, 96, 1, 2, 13, 100, 0, 19, 64, 17, 2, 13, 24, 0,
-    24, 0, 0,
+// A row on a line: what is asked of what, and the answer.
+macro_rules! said {
+    ($asked:expr, $a:expr, $b:expr => $answer:expr) => {
+        Row {
+            asked: $asked,
+            a: $a,
+            b: $b,
+            answer: $answer,
+        }
+    };
+}
+
+const ROWS: [Row; COUNT] = [
+    said!(Asked::Split, 4, 3 => Err(DmaBufError::InvalidChunkSize)),
+    said!(Asked::Split, 4, 4 => Ok([1, 1, 0])),
+    said!(Asked::Split, 4, 11 => Err(DmaBufError::UnevenSplit)),
+    said!(Asked::Split, 4, 14 => Ok([3, 5, 0])),
+    said!(Asked::Split, 4, 15 => Err(DmaBufError::UnevenSplit)),
+    said!(Asked::Split, 4, 16377 => Ok([4094, 4095, 0])),
+    said!(Asked::Split, 4, 16378 => Err(DmaBufError::InsufficientDescriptors)),
+    said!(Asked::Split, 4, 16380 => Ok([4095, 4095, 0])),
+    said!(Asked::Split, 4, 16381 => Err(DmaBufError::InsufficientDescriptors)),
+    said!(Asked::Cut(Chip::Ordinary), 13, 100 => Ok([3, 96, 1])),
+    said!(Asked::Cut(Chip::S2), 13, 100 => Ok([19, 64, 17])),
+    said!(Asked::Cut(Chip::S2), 13, 24 => Ok([24, 0, 0])),
 ];
 
-#[derive(Clone, Copy)]
-pub struct Answer {
-    pub refused: usize,
-    pub first: usize,
-    pub second: usize,
-    pub third: usize,
-}
-
-fn entry(i: usize) -> u32
-    ensures { result ≡ get_or rows i 0 }
+// Row k: A is 0.
+#[tactic(auto, unfolding(crate::specs::Rows::table))]
+fn entry(k: usize) -> Row
+    requires { k < count }
+    ensures { result ≡ row_at k }
 {
-    if i < WIDE * COUNT {
-        return ROWS[i];
-    }
-    0
+    ROWS[k]
 }
 
-fn refused(e: DmaBufError) -> Answer
-    ensures { result ≡ refused_answer e }
-{
-    Answer {
-        refused: u8::from(e) as usize,
-        first: 0,
-        second: 0,
-        third: 0,
-    }
-}
-
-fn split_answer(n: usize, len: usize) -> Answer
+fn split_answer(n: usize, len: usize) -> Result<[usize; 3], DmaBufError>
     ensures { result ≡ split_answer (split_of n len) }
 {
-    let parts = split::split_of(n, len);
-    match parts {
-        Ok(Split { chunk, rest }) => Answer {
-            refused: 0,
-            first: chunk,
-            second: chunk + rest,
-            third: 0,
-        },
-        Err(e) => refused(e),
-    }
+    let parts = split::split_of(n, len)?;
+    Ok([parts.chunk, parts.chunk + parts.rest, 0])
 }
 
-fn cut_answer(address: u32, length: u32, chip: Chip) -> Answer
+fn cut_answer(address: u32, length: u32, chip: Chip) -> Result<[usize; 3], DmaBufError>
     ensures { result ≡ cut_answer (cut_of chip address length) }
 {
-    let parts = cut::cut(address, length, chip);
-    match parts {
-        Ok(Cut { head, middle, tail }) => Answer {
-            refused: 0,
-            first: head,
-            second: middle,
-            third: tail,
-        },
-        Err(e) => refused(e),
-    }
+    let parts = cut::cut(address, length, chip)?;
+    Ok([parts.head, parts.middle, parts.tail])
 }
 
 // What the code answers to a row.
-fn answer_to(asked: u32, a: u32, b: u32) -> Answer
+fn answer_to(asked: Asked, a: u32, b: u32) -> Result<[usize; 3], DmaBufError>
     ensures { result ≡ answer_of asked a b }
 {
-    if asked == 0 {
-        return split_answer(a as usize, b as usize);
+    match asked {
+        Asked::Split => split_answer(a as usize, b as usize),
+        Asked::Cut(chip) => cut_answer(a, b, chip),
     }
-    if asked == 1 {
-        return cut_answer(a, b, Chip::Ordinary);
-    }
-    cut_answer(a, b, Chip::S2)
 }
 
-// Whether an answer is what row k says.
-fn is_same(r: Answer, k: usize) -> bool
-    requires { k < count }
-    ensures { result ≡ same_as r k }
+// Whether an answer is what the row says.
+fn is_same(said: Result<[usize; 3], DmaBufError>, answer: Result<[usize; 3], DmaBufError>) -> bool
+    ensures { result ≡ same_as said answer }
 {
-    if r.refused != number(k, 3) {
-        return false;
-    }
-    if r.first != number(k, 4) {
-        return false;
-    }
-    if r.second != number(k, 5) {
-        return false;
-    }
-    r.third == number(k, 6)
+    said == answer
 }
 
-fn number(k: usize, j: usize) -> usize
-    requires { (k < count) × (j < wide) }
-    ensures { result ≡ at k j }
-{
-    entry_of(k, j) as usize
+fn show_row(rt: &impl Print, name: char, asked: Asked, a: u32, b: u32) -> io::Result<()> {
+    print!(rt; "{name} {asked} {a} {b}:")
 }
 
-fn say(rt: &impl Print, text: &[u8]) -> io::Result<()> {
-    rt.write_all(text)
+fn show_sizes(rt: &impl Print, first: usize, second: usize, third: usize) -> io::Result<()> {
+    print!(rt; " {first} {second} {third}")
 }
 
-fn show(rt: &impl Print, n: usize) -> io::Result<()> {
-    say(rt, b" ")?;
-    print!(rt; "{n}")
-}
-
-fn show_asked(rt: &impl Print, asked: u32) -> io::Result<()> {
-    if asked == 0 {
-        return say(rt, b" split");
+fn show_answer(rt: &impl Print, answer: Result<[usize; 3], DmaBufError>) -> io::Result<()> {
+    match answer {
+        Ok(sizes) => show_sizes(rt, sizes[0], sizes[1], sizes[2]),
+        Err(e) => {
+            let number = u8::from(e);
+            print!(rt; " refused {number}")
+        }
     }
-    if asked == 1 {
-        return say(rt, b" cut ordinary");
-    }
-    say(rt, b" cut s2")
-}
-
-fn show_answer(rt: &impl Print, r: Answer) -> io::Result<()> {
-    if r.refused != 0 {
-        say(rt, b": refused")?;
-        return show(rt, r.refused);
-    }
-    say(rt, b":")?;
-    show(rt, r.first)?;
-    show(rt, r.second)?;
-    show(rt, r.third)
 }
 
 fn run_row(rt: &impl Print, k: usize) -> io::Result<()>
     requires { k < count }
 {
-    let name = [(65 + k % 26) as u8];
-    say(rt, &name)?;
-    let asked = entry_of(k, 0);
-    let a = entry_of(k, 1);
-    let b = entry_of(k, 2);
-    show_asked(rt, asked)?;
-    show(rt, a as usize)?;
-    show(rt, b as usize)?;
-    let r = answer_to(asked, a, b);
-    show_answer(rt, r)?;
-    if is_same(r, k) {
-        say(rt, b" same\n")
+    let row = entry(k);
+    show_row(rt, (b'A' + k as u8) as char, row.asked, row.a, row.b)?;
+    let answer = answer_to(row.asked, row.a, row.b);
+    show_answer(rt, answer)?;
+    if is_same(answer, row.answer) {
+        println!(rt; " same")
     } else {
-        say(rt, b" differs\n")
+        println!(rt; " differs")
     }
 }
 
-// Number j of row k.
-fn entry_of(k: usize, j: usize) -> u32
-    requires { (k < count) × (j < wide) }
-    ensures { result ≡ at k j }
-{
-    entry(WIDE * k + j)
-}
-
 fn main(rt: HostRuntime) -> io::Result<()> {
-    let mut k: usize = 0;
-    while k < COUNT {
+    for k in 0..COUNT {
         run_row(&rt, k)?;
-        k += 1;
     }
     Ok(())
 }

@@ -18,7 +18,7 @@ pub(crate) fn accept_in(w: &mut [u16], h: &mut Head, k: usize)
     *h = Head {
         descriptor_idx: m.at,
         descriptor_offset: m.offset,
-        tally: std::num::wrapping_add_u32(h.tally, (accepted % 4294967296) as u32),
+        tally: h.tally.wrapping_add((accepted % 4294967296) as u32),
         ..*h
     };
 }

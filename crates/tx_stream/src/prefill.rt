@@ -14,7 +14,7 @@ fn prefilled_by(h: &mut Head, k: usize)
     requires { h.old.pre_filled + k < 2 ^ 64 }
     ensures { h.new ≡ prefilled_head h.old k }
 {
-    h.tally = std::num::wrapping_add_u32(h.tally, (k % 4294967296) as u32);
+    h.tally = h.tally.wrapping_add((k % 4294967296) as u32);
     h.pre_filled += k;
 }
 
@@ -32,10 +32,10 @@ pub fn prefill_in<'a>(
 {
     ring::judge_split(s, w, *h, buffer.len())?;
     let at = h.pre_filled;
-    let k = data.len().min(buffer.len() - at);
-    copy::copy_to(buffer, at, &data[..k]);
-    prefilled_by(h, k);
-    Ok(k)
+    let accepted = data.len().min(buffer.len() - at);
+    copy::copy_to(buffer, at, &data[..accepted]);
+    prefilled_by(h, accepted);
+    Ok(accepted)
 }
 
 // All behind the prefilled bytes, to be written before a commit; empty on a refusal, which the companion names.

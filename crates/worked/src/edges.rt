@@ -1,41 +1,25 @@
 // Bad input, and the refusal that each gets.
 use crate::say;
+use crate::say::{Numbers, Said};
 use burst::Region;
-use descriptors::record::TransferDirection;
+use descriptors::record::{TOP, TransferDirection};
 use descriptors::split;
-use descriptors::split::Split;
 use psram::chip::Chip;
-use psram::held::Listed;
-use psram::plan::Cut;
 use psram::{cut, list, piece};
 use std::io;
 
 fn split(rt: &impl Print, n: usize, len: usize) -> io::Result<()> {
-    say::text(rt, b"split")?;
-    say::number(rt, n)?;
-    say::number(rt, len)?;
-    let parts = split::split_of(n, len);
-    match parts {
-        Ok(Split { chunk, rest }) => {
-            say::number(rt, chunk)?;
-            say::number(rt, rest)?;
-        }
-        Err(e) => say::refused(rt, e)?,
-    }
-    say::line(rt)
+    let parts = split::split_of(n, len).map(|s| Numbers([s.chunk, s.rest]));
+    println!(rt; "split {n} {len} {}", Said(parts))
 }
 
 fn align(rt: &impl Print, address: u32, length: u32, alignment: u32) -> io::Result<()> {
-    say::text(rt, b"align")?;
-    say::number(rt, address as usize)?;
-    say::number(rt, length as usize)?;
-    say::number(rt, alignment as usize)?;
     let internal = Region {
         start: 0,
-        end: 4294967296,
+        end: TOP as u64,
     };
     let external = Region { start: 0, end: 0 };
-    let r = burst::ensure_buffer_compatible(
+    let answer = burst::ensure_buffer_compatible(
         address,
         length,
         TransferDirection::In,
@@ -44,59 +28,36 @@ fn align(rt: &impl Print, address: u32, length: u32, alignment: u32) -> io::Resu
         alignment,
         1,
     );
-    say::done(rt, b"", r)
+    println!(rt;
+        "align {address} {length} {alignment} {}",
+        say::done(answer)
+    )
 }
 
 fn cut_at(rt: &impl Print, address: u32, length: u32) -> io::Result<()> {
-    say::text(rt, b"cut")?;
-    say::number(rt, address as usize)?;
-    say::number(rt, length as usize)?;
-    match cut::cut(address, length, Chip::Ordinary) {
-        Ok(Cut { head, middle, tail }) => {
-            say::number(rt, head)?;
-            say::number(rt, middle)?;
-            say::number(rt, tail)?;
-        }
-        Err(e) => say::refused(rt, e)?,
-    }
-    say::line(rt)
+    let parts = cut::cut(address, length, Chip::Ordinary).map(|c| Numbers([
+        c.head, c.middle, c.tail,
+    ]));
+    println!(rt; "cut {address} {length} {}", Said(parts))
 }
 
 fn pieces(rt: &impl Print, n: usize, address: u32, length: u32, store: usize) -> io::Result<()> {
-    say::text(rt, b"pieces")?;
-    say::number(rt, n)?;
-    say::number(rt, length as usize)?;
-    say::number(rt, store)?;
-    let mut s = [0u32; 64];
-    let mut w = [0u16; 320];
-    match list::build_descriptor_list_for_psram(
-        &mut s,
-        &mut w,
+    let listed = list::build_descriptor_list_for_psram(
+        &mut [0; 64],
+        &mut [0; 320],
         n,
         address,
         length,
         Chip::Ordinary,
         store,
-    ) {
-        Ok(Listed { covered, used }) => {
-            say::number(rt, covered)?;
-            say::number(rt, used)?;
-        }
-        Err(e) => say::refused(rt, e)?,
-    }
-    say::line(rt)
+    );
+    let said = Said(listed.map(|l| Numbers([l.covered, l.used])));
+    println!(rt; "pieces {n} {length} {store} {said}")
 }
 
 fn numbered(rt: &impl Print, i: usize) -> io::Result<()> {
-    let store = [0u8; 32];
-    let range = [0u8; 100];
-    say::text(rt, b"piece")?;
-    say::number(rt, i)?;
-    say::done(
-        rt,
-        b"",
-        piece::piece_refusal(&store, &range, 64, 13, Chip::Ordinary, i),
-    )
+    let answer = piece::piece_refusal(&[0; 32], &[0; 100], 64, 13, Chip::Ordinary, i);
+    println!(rt; "piece {i} {}", say::done(answer))
 }
 
 fn splits(rt: &impl Print) -> io::Result<()> {
@@ -105,7 +66,7 @@ fn splits(rt: &impl Print) -> io::Result<()> {
     split(rt, 4, 0)?;
     split(rt, 4, 16384)?;
     split(rt, 65, 14)?;
-    split(rt, 18446744073709551615, 14)
+    split(rt, usize::MAX, 14)
 }
 
 fn alignments(rt: &impl Print) -> io::Result<()> {

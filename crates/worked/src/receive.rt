@@ -1,12 +1,13 @@
 // "the device fills 01 02 03, then 04 05 with EOF .."
 use crate::say;
+use crate::say::{Hex, Said};
 use descriptors::cells;
-use device::by_value::ReceivedStep;
 use device::{by_value, stand};
 use rx_stream::buf::DmaRxStreamBuf;
-use rx_stream::view::{DmaRxStreamBufView, Popped};
+use rx_stream::view::DmaRxStreamBufView;
 use std::io;
 
+// The ring and the device that a fill leaves.
 fn fill(
     rt: &impl Print,
     ring: DmaRxStreamBufView,
@@ -14,11 +15,10 @@ fn fill(
     buffer: &mut [u8],
     incoming: &[u8],
     eof: bool,
-) -> io::Result<ReceivedStep> {
-    let r = by_value::receive_step(ring, device, buffer, incoming, eof);
-    let answer = r.answer;
-    say::done(rt, b"fill", answer)?;
-    Ok(r)
+) -> io::Result<(DmaRxStreamBufView, Option<u16>)> {
+    let step = by_value::receive_step(ring, device, buffer, incoming, eof);
+    println!(rt; "fill {}", say::done(step.answer))?;
+    Ok((step.ring, step.device))
 }
 
 fn pop(
@@ -27,60 +27,42 @@ fn pop(
     buffer: &[u8],
     dst: &mut [u8],
 ) -> io::Result<DmaRxStreamBufView> {
-    let r = ring.pop(buffer, dst);
-    let answer = r.answer;
-    say::front(rt, b"pop", dst, answer)?;
-    let after = r.ring;
-    let h = after.head;
-    say::cursor(rt, h)?;
-    Ok(after)
+    let popped = ring.pop(buffer, dst);
+    let front = popped.answer.map(|k| Hex(&dst[..k.min(dst.len())]));
+    println!(rt; "pop {}", Said(front))?;
+    say::cursor(rt, popped.ring.head)?;
+    Ok(popped.ring)
 }
 
 fn looks(rt: &impl Print, ring: DmaRxStreamBufView, buffer: &[u8]) -> io::Result<()> {
-    say::counted(rt, b"available", ring.available_bytes(buffer.len()))?;
-    say::bytes(rt, b"peek", ring.peek(buffer))?;
-    say::bytes(rt, b"peek_until_eof", ring.peek_until_eof(buffer))?;
+    println!(rt; "available {}", Said(ring.available_bytes(buffer.len())))?;
+    println!(rt; "peek {}", Hex(ring.peek(buffer)))?;
+    println!(rt; "peek_until_eof {}", Hex(ring.peek_until_eof(buffer)))?;
     let ended = ring.peek_eof(buffer.len());
-    match ended {
-        Ok(yes) => {
-            if yes {
-                say::text(rt, b"yes\n")
-            } else {
-                say::text(rt, b"no\n")
-            }
-        }
-        Err(e) => {
-            say::refused(rt, e)?;
-            say::line(rt)
-        }
+    println!(rt; "{}", Said(ended.map(|yes| if yes { "yes" } else { "no" })))
+}
+
+fn next(rt: &impl Print, ring: DmaRxStreamBufView, i: usize) -> io::Result<()> {
+    match cells::next_of(&ring.cells, i) {
+        None => println!(rt; "next of {i} none"),
+        Some(next) => println!(rt; "next of {i} {next}"),
     }
 }
 
 pub fn run(rt: &impl Print) -> io::Result<()> {
-    let mut buffer = [0u8; 14];
-    let built = DmaRxStreamBuf::new([0u32; 64], [0u16; 320], 4, &buffer);
-    let answer = built.answer;
-    say::done(rt, b"rx 4 14", answer)?;
-    let ring = built.ring;
-    let prepared = ring.prepare(14);
-    let answer = prepared.answer;
-    say::done(rt, b"prepare", answer)?;
-    let ring = prepared.ring;
-    let view = ring.into_view();
-    let first = [1u8, 2, 3];
-    let second = [4u8, 5];
-    let a = fill(rt, view, stand::start(), &mut buffer, &first, false)?;
-    let ring = a.ring;
-    let device = a.device;
-    let b = fill(rt, ring, device, &mut buffer, &second, true)?;
-    let ring = b.ring;
-    let device = b.device;
+    let mut buffer = [0; 14];
+    let built = DmaRxStreamBuf::new([0; 64], [0; 320], 4, &buffer);
+    println!(rt; "rx 4 14 {}", say::done(built.answer))?;
+    let prepared = built.ring.prepare(14);
+    println!(rt; "prepare {}", say::done(prepared.answer))?;
+    let view = prepared.ring.into_view();
+    let (ring, device) = fill(rt, view, stand::start(), &mut buffer, &[1, 2, 3], false)?;
+    let (ring, device) = fill(rt, ring, device, &mut buffer, &[4, 5], true)?;
     looks(rt, ring, &buffer)?;
-    let mut four = [0u8; 4];
+    let mut four = [0; 4];
     let ring = pop(rt, ring, &buffer, &mut four)?;
-    let w = ring.cells;
-    say::next(rt, b"next of 3", cells::next_of(&w, 3))?;
-    say::next(rt, b"next of 0", cells::next_of(&w, 0))?;
+    next(rt, ring, 3)?;
+    next(rt, ring, 0)?;
     let ring = pop(rt, ring, &buffer, &mut four)?;
     later(rt, ring, device, buffer)
 }
@@ -90,17 +72,11 @@ fn later(
     rt: &impl Print,
     ring: DmaRxStreamBufView,
     device: Option<u16>,
-    bytes: [u8; 14],
+    mut buffer: [u8; 14],
 ) -> io::Result<()> {
-    let mut buffer = bytes;
-    let third = [6u8, 7, 8];
-    let last = [9u8, 10, 11, 12, 13];
-    let a = fill(rt, ring, device, &mut buffer, &third, false)?;
-    let ring = a.ring;
-    let device = a.device;
-    let b = fill(rt, ring, device, &mut buffer, &last, false)?;
-    let ring = b.ring;
-    let mut five = [0u8; 5];
-    let ring = pop(rt, ring, &buffer, &mut five)?;
-    say::bytes(rt, b"peek", ring.peek(&buffer))
+    let (ring, device) = fill(rt, ring, device, &mut buffer, &[6, 7, 8], false)?;
+    let last = [9, 10, 11, 12, 13];
+    let (ring, _) = fill(rt, ring, device, &mut buffer, &last, false)?;
+    let ring = pop(rt, ring, &buffer, &mut [0; 5])?;
+    println!(rt; "peek {}", Hex(ring.peek(&buffer)))
 }

@@ -1,87 +1,56 @@
 // Answers as text.
-use descriptors::refusal;
 use descriptors::refusal::DmaBufError;
 use descriptors::ring::Head;
-use std::io;
+use std::fmt::Display;
+use std::{fmt, io};
 
-pub fn text(rt: &impl Print, words: &[u8]) -> io::Result<()> {
-    rt.write_all(words)
-}
+// What was answered, or the number that document 01 gives the refusal.
+#[derive(Drop)]
+pub struct Said<A>(pub Result<A, DmaBufError>);
 
-pub fn number(rt: &impl Print, n: usize) -> io::Result<()> {
-    text(rt, b" ")?;
-    print!(rt; "{n}")
-}
-
-pub fn line(rt: &impl Print) -> io::Result<()> {
-    text(rt, b"\n")
-}
-
-pub fn refused(rt: &impl Print, e: DmaBufError) -> io::Result<()> {
-    text(rt, b" refused")?;
-    number(rt, u8::from(e) as usize)
-}
-
-pub fn done(rt: &impl Print, name: &[u8], answer: Result<(), DmaBufError>) -> io::Result<()> {
-    text(rt, name)?;
-    match answer {
-        Ok(()) => text(rt, b" ok")?,
-        Err(e) => refused(rt, e)?,
-    }
-    line(rt)
-}
-
-pub fn counted(rt: &impl Print, name: &[u8], answer: Result<usize, DmaBufError>) -> io::Result<()> {
-    text(rt, name)?;
-    match answer {
-        Ok(k) => number(rt, k)?,
-        Err(e) => refused(rt, e)?,
-    }
-    line(rt)
-}
-
-fn wide(b: u8) -> u64 {
-    b as u64
-}
-
-// The first k bytes of a part, each as two hexadecimal digits.
-fn first(rt: &impl Print, name: &[u8], part: &[u8], k: usize) -> io::Result<()> {
-    text(rt, name)?;
-    text(rt, b" ")?;
-    let mut i: usize = 0;
-    while i < part.len() {
-        if i < k {
-            print!(rt; "{:02x}", wide(part[i]))?;
+impl<A: Display> Display for Said<A> {
+    fn fmt<W: fmt::Write>(&self, f: &mut fmt::Formatter<W>) -> fmt::Result {
+        match &self.0 {
+            Ok(answer) => write!(f, "{answer}"),
+            Err(e) => write!(f, "refused {}", u8::from(*e)),
         }
-        i += 1;
     }
-    line(rt)
 }
 
-pub fn bytes(rt: &impl Print, name: &[u8], part: &[u8]) -> io::Result<()> {
-    first(rt, name, part, part.len())
+// Numbers with a space between.
+#[derive(Drop)]
+pub struct Numbers<const N: usize>(pub [usize; N]);
+
+impl<const N: usize> Display for Numbers<N> {
+    fn fmt<W: fmt::Write>(&self, f: &mut fmt::Formatter<W>) -> fmt::Result {
+        for (i, n) in self.0.iter().enumerate() {
+            if 0 < i {
+                write!(f, " ")?;
+            }
+            write!(f, "{n}")?;
+        }
+        Ok(())
+    }
 }
 
-// The front of what a pop filled.
-pub fn front(rt: &impl Print, name: &[u8], part: &[u8], answer: Result<usize, DmaBufError>) -> io::Result<()> {
-    let Ok(k) = answer else {
-        return counted(rt, name, answer);
-    };
-    first(rt, name, part, k)
+// The bytes of a part, each as two hexadecimal digits.
+#[derive(Drop)]
+pub struct Hex<'a>(pub &'a [u8]);
+
+impl<'a> Display for Hex<'a> {
+    fn fmt<W: fmt::Write>(&self, f: &mut fmt::Formatter<W>) -> fmt::Result {
+        for byte in self.0 {
+            write!(f, "{byte:02x}")?;
+        }
+        Ok(())
+    }
+}
+
+// An answer that has no value.
+pub fn done(answer: Result<(), DmaBufError>) -> Said<&'static str> {
+    Said(answer.map(|()| "ok"))
 }
 
 pub fn cursor(rt: &impl Print, h: Head) -> io::Result<()> {
-    text(rt, b"cursor")?;
-    number(rt, h.descriptor_idx)?;
-    number(rt, h.descriptor_offset)?;
-    line(rt)
-}
-
-pub fn next(rt: &impl Print, name: &[u8], next: Option<u16>) -> io::Result<()> {
-    text(rt, name)?;
-    match next {
-        None => text(rt, b" none")?,
-        Some(i) => number(rt, i as usize)?,
-    }
-    line(rt)
+    println!(rt; "cursor {} {}", h.descriptor_idx, h.descriptor_offset)
 }

@@ -3,7 +3,7 @@ use Rattle.std.specs.Prelude.{ℕ, zero, suc, ◌^◌, ◌<◌, ◌≤◌, max, 
 use Rattle.std.proofs.Common.{sym, ◌∙◌, ap, arith, leb-true, leb-false, ltb-true, ltb-false, eqb-true, eq-eqb, ne_eqb}
 use Rattle.std.proofs.Math.Path.{subst⁻¹}
 use Rattle.std.specs.Int.Count.{ones, ones_in}
-use Rattle.burst.specs.Burst.{is_good, alignment_at}
+use Rattle.burst.specs.Burst.{is_good, contains, alignment_at}
 use Rattle.burst.specs.declared.Region.{Region}
 
 -- a number is one of the first k powers of two
@@ -102,7 +102,7 @@ good-pos (suc a) g = omega arith
 
 pub alignment-pos : (address : ℕ) (external : Region) (ai ae : ℕ) → is_good ai ≡ true → 0 < alignment_at address external ai ae
 unfolding alignment_at
-alignment-pos address external ai ae g = go (leb external.start address && ltb address external.end) (good-pos ai g)
+alignment-pos address external ai ae g = go (contains external address) (good-pos ai g)
   where
     go : (b : Bool) → 0 < ai → 0 < cond b (max ai ae) ai
     go true h = omega arith

@@ -41,6 +41,9 @@ pub head-made : (hw : List ℕ) (h : Head) (ready : Bool) → ready ≡ true →
 unfolding head_made head_now
 head-made hw h ready p q = rw (p, q, eq-eqb _ _ (head-five hw q))
 
+-- what a test of the words tells
+pub ruleset of_head = (head-five, head-round, head-made)
+
 -- ---- an answer's words
 
 pub three-stored : (an : List ℕ) (a b c : ℕ) → 3 ≤ length an → set (set (set an 0 a) 1 b) 2 c ≡ a ∷ (b ∷ (c ∷ drop 3 an))
@@ -63,3 +66,5 @@ place-one dw h = eqb-true _ _ (and_split (eqb (length dw) 1) (leb (get_or dw 0 0
 pub place-small : (dw : List ℕ) → is_place dw ≡ true → get_or dw 0 0 ≤ limit
 unfolding is_place
 place-small dw h = leb-true _ _ (and_split (eqb (length dw) 1) (leb (get_or dw 0 0) limit) h).1
+
+pub ruleset of_place = (place-one, place-small, one-stored)

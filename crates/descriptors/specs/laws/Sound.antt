@@ -15,6 +15,7 @@ use Rattle.descriptors.specs.declared.record.TransferDirection.TheVariants.{In, 
 use Rattle.descriptors.specs.declared.ring.Head.{Head}
 use Rattle.descriptors.specs.Refusal.{Answer}
 use Rattle.descriptors.specs.declared.refusal.DmaBufError.{DmaBufError}
+use Rattle.descriptors.specs.declared.refusal.DmaBufError.TheVariants.{BadState}
 
 -- ---- the scans
 
@@ -210,6 +211,13 @@ offset-dma Out d o h e = go (o == 0) refl (and_split (nat_lt o d.size) _ h).1
     go : (b : Bool) → (o == 0) ≡ b → (b || is_cpu d.owner) ≡ true → o ≡ 0
     go true q h = eqb-true o 0 q
     go false q h = not-both (sym e ∙ h)
+
+-- what the judge answers
+pub judged_true : (b : Bool) → b ≡ true → Ok tt ≡ judged b
+judged_true b e = rw e refl
+
+pub judged_false : (b : Bool) → b ≡ false → Err BadState ≡ judged b
+judged_false b e = rw e refl
 
 -- what an answer of the judge tells
 pub ready-split : (b : Bool) (d : Answer Unit) (u : Unit) → d ≡ judged b → d ≡ Ok u → b ≡ true

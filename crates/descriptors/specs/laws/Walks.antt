@@ -22,6 +22,9 @@ module _ (dir : TransferDirection) (f : ℕ → DmaDescriptor) (n : ℕ) where
   unfolding run_bytes
   run_none i = refl
 
+  pub run_done : (k j i : ℕ) → k ≤ j → run_bytes dir f n (k - j) i ≡ 0
+  run_done k j i h = let e : k - j ≡ 0 = omega arith in rw e (run_none i)
+
   pub run-stop : (k i : ℕ) → is_cpu (f i).owner ≡ false → run_bytes dir f n k i ≡ 0
   unfolding run_bytes
   run-stop zero i e = refl
@@ -35,6 +38,9 @@ module _ (dir : TransferDirection) (f : ℕ → DmaDescriptor) (n : ℕ) where
   pub walk_none : (m : Moved) → walk dir f n 0 m ≡ m
   unfolding walk
   walk_none m = refl
+
+  pub walk_done : (k j : ℕ) (m : Moved) → k ≤ j → walk dir f n (k - j) m ≡ m
+  walk_done k j m h = let e : k - j ≡ 0 = omega arith in rw e (walk_none m)
 
   pub walk-stop : (k : ℕ) (m : Moved) → is_cpu (f m.at).owner ≡ false → walk dir f n k m ≡ m
   unfolding walk
@@ -99,10 +105,18 @@ module _ (dir : TransferDirection) (f : ℕ → DmaDescriptor) (n : ℕ) where
   unfolding turns
   turns-none hand i s = refl
 
+  pub turns_done : {S : Type 0} (hand : ℕ → S → S) (g j i : ℕ) (s : S) → g ≤ j → turns hand n (g - j) i s ≡ s
+  turns_done hand g j i s h = let e : g - j ≡ 0 = omega arith in rw e (turns-none hand i s)
+
   pub turns_go : {S : Type 0} (hand : ℕ → S → S) (g i : ℕ) (s : S) → 0 < g → turns hand n g i s ≡ turns hand n (g - 1) (after n i) (hand i s)
   unfolding turns
   turns_go hand zero i s h = absurd (omega arith)
   turns_go hand (suc g) i s h = let p : suc g - 1 ≡ g = omega arith in rw p
+
+-- the steps of the run, and of the walk
+pub ruleset run_steps = (run_done, run-stop, run-go)
+
+pub ruleset walk_steps = (walk_done, walk-stop, walk-part, walk-go, walk-in, walk-out)
 
 -- two readings of the records that agree in owner and span at every place
 pub record Alike (dir : TransferDirection) (f g : ℕ → DmaDescriptor) : Type 0 where

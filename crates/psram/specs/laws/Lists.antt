@@ -1,7 +1,7 @@
 -- The stores of a list of pieces, as changes of the records that the words show.
 use Rattle.std.specs.Prelude.{ℕ, zero, suc, ◌+◌, ◌-◌, ◌≤◌, ◌≡◌, Bool, true, false, not, List, eqb, length, Ok, Err, Some}
 use Rattle.std.proofs.Math.Path.{refl}
-use Rattle.std.proofs.Common.{◌∙◌, ap, arith, add-one, lt-ltb}
+use Rattle.std.proofs.Common.{sym, ◌∙◌, ap, arith, add-one, lt-ltb}
 use Rattle.descriptors.specs.Record.{limit, update, up_to, with_buffer, with_size}
 use Rattle.descriptors.specs.Cells.{are_records, records_of, put_size, put_next}
 use Rattle.descriptors.specs.laws.Lifts.{Lifts, size-lifts, next-lifts, start-changes, lifts-then, records-length, records-none}
@@ -87,6 +87,11 @@ module _ (st ws : List ℕ) (n address len : ℕ) (chip : Chip) (store : ℕ) wh
       → list_of (records_of st ws) n address len chip store ≡ listing_by d (records_of st ws) n (plan_for chip address len)
   unfolding list_of
   judged d e = rw (held-is st ws, e) refl
+
+  -- the same of what the call found the words and the range to be
+  pub heard : (held : Bool) (r d : Answer Unit) → held ≡ are_records st ws → r ≡ ready_of held n address len chip store → r ≡ d
+      → ready_of (are_records st ws) n address len chip store ≡ d
+  heard held r d e f g = rw (← e) (sym f ∙ g)
 
   pub leaves-refused : (e : DmaBufError) → ready_of (are_records st ws) n address len chip store ≡ Err e
       → Leaves st ws st ws (Err e) (list_of (records_of st ws) n address len chip store)

@@ -101,6 +101,10 @@ within n address len chip store i = go (ready_of true n address len chip store) 
         (part (ready true n address len chip store e).1 (piece_of (plan_for chip address len) i) (lies (plan_for chip address len) i))
     go (Err r) e = tt
 
+pub there : (n address len : ℕ) (chip : Chip) (store i : ℕ) (a : Answer Held) (h g : Held) → a ≡ numbered_of n address len chip store i → a ≡ Ok h → h ≡ g
+    → Within store len (Ok g)
+there n address len chip store i a h g e f d = rw (← e, f, d) at (within n address len chip store i)
+
 -- the length of a part that is given by its start and its end
 pub span : (start size : ℕ) → start + size - start ≡ size
 span start size = omega arith

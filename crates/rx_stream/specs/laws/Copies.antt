@@ -61,7 +61,8 @@ module _ (st ws : List ℕ) (h : Head) (src : List ℕ) (ok : sound In (ring_of 
   lay = layout In (ring_of st ws h) (length src) (known st ws h (length src) ok)
 
   module _ (o want left i : ℕ) (place : i < h.count) (some : 0 < left) (offset : o ≤ (record_in (records_of st ws) i).length)
-      (p : Piece) (is : p ≡ cond (nat_le (min h.count (i + left)) limit) (piece_of (record_at [] ws) o want (min h.count (i + left) - i) i) nothing) where
+      {end : ℕ} {p : Piece} (ends : end ≡ min h.count (i + left))
+      (is : p ≡ cond (nat_le end limit) (piece_of (record_at [] ws) o want (end - i) i) nothing) where
     k : ℕ
     k = min h.count (i + left) - i
 
@@ -76,6 +77,7 @@ module _ (st ws : List ℕ) (h : Head) (src : List ℕ) (ok : sound In (ring_of 
     unfolding k f
     piece =
         is
+        ∙ ap (λ (e : ℕ). cond (nat_le e limit) (piece_of (record_at [] ws) o want (e - i) i) nothing) ends
         ∙ ap (λ (b : Bool). cond b (piece_of (record_at [] ws) o want k i) nothing) (le-leb (min h.count (i + left)) limit (omega (arith, (known st ws h (length src) ok).split.parts.many)))
         ∙ piece-like (record_at [] ws) (record_in (records_of st ws)) (cells-like st ws (held st ws h (length src) ok)) o want k i
 

@@ -1,14 +1,18 @@
 -- The part that peek hands back lies in the buffer.
-use Rattle.std.specs.Prelude.{◌≡◌, ℕ, zero, suc, ◌+◌, ◌-◌, ◌<◌, ◌≤◌, Bool, true, false, ◌||◌, nat_lt, refl}
-use Rattle.std.proofs.Common.{ap, arith, ltb-true, ltb-false}
-use Rattle.descriptors.specs.Record.{record_in, is_cpu}
-use Rattle.descriptors.specs.Ring.{Ring, record_of}
+use Rattle.std.specs.Prelude.{◌≡◌, ℕ, zero, suc, ◌+◌, ◌-◌, ◌<◌, ◌≤◌, Bool, true, false, cond, ◌||◌, List, [], nat_le, nat_lt, refl}
+use Rattle.std.proofs.Common.{sym, ◌∙◌, ap, arith, ltb-true, ltb-false, le-leb}
+use Rattle.descriptors.specs.Record.{limit, record_in, is_cpu}
+use Rattle.descriptors.specs.Cells.{records_of, record_at, start_at}
+use Rattle.descriptors.specs.Ring.{Ring, ring_of, record_of, sound}
+use Rattle.descriptors.specs.laws.Lifts.{record_is}
 use Rattle.descriptors.specs.laws.Sound.{Facts, offset-least, offset-dma}
 use Rattle.descriptors.specs.declared.record.DmaDescriptor.{DmaDescriptor}
 use Rattle.descriptors.specs.declared.record.TransferDirection.TheVariants.{In}
-use Rattle.rx_stream.specs.Receive.{ends_with, flat_bytes}
-use Rattle.rx_stream.specs.laws.Flats.{flat-none, flat-stop, flat-ends, flat-go, flat-least}
+use Rattle.rx_stream.specs.Receive.{ends_with, flat_bytes, flat_eof}
+use Rattle.rx_stream.specs.laws.Flats.{flat-none, flat-stop, flat-ends, flat-go, flat-least, flat-like, eof-like, cells-like}
 use Rattle.rx_stream.specs.laws.Layout.{Layout, layout}
+use Rattle.rx_stream.specs.laws.Takes.{known, held}
+use Rattle.descriptors.specs.declared.ring.Head.{Head}
 
 -- a piece goes on past full records only
 goes-full : (a b : Bool) → (a || b) ≡ false → a ≡ false
@@ -62,6 +66,34 @@ part u r len s =
     go : (a : Bool) → is_cpu (record_of r r.idx).owner ≡ a → r.offset ≤ flat_bytes u (record_in r.descriptors) (r.count - r.idx) r.idx
     go true e = omega (arith, offset-least In (record_of r r.idx) r.offset s.offset, flat-least u (record_in r.descriptors) (r.count - r.idx) r.idx (omega (arith, s.within)) e)
     go false e = omega (arith, offset-dma In (record_of r r.idx) r.offset s.offset e)
+
+-- what the code reads of the words: the part's first place, the bytes in one piece from the cursor's record on, and the mark behind them
+module _ (st ws : List ℕ) (h : Head) (len : ℕ) (s : sound In (ring_of st ws h) len ≡ true) where
+  pub record Read (u : Bool) (start bytes : ℕ) : Type 0 where
+    pub starts : start ≡ (record_of (ring_of st ws h) h.descriptor_idx).buffer
+    pub flats : bytes ≡ flat_bytes u (record_in (records_of st ws)) (h.count - h.descriptor_idx) h.descriptor_idx
+    pub forward : h.descriptor_offset ≤ bytes
+    pub inside : start + bytes ≤ len
+
+  pub part-read : (u : Bool) {start bytes : ℕ} → start ≡ start_at st h.descriptor_idx
+      → bytes ≡ cond (nat_le h.count limit) (flat_bytes u (record_at [] ws) (h.count - h.descriptor_idx) h.descriptor_idx) 0 → Read u start bytes
+  part-read u {start = start} {bytes = bytes} p q =
+      let k = known st ws h len s in
+      let w = held st ws h len s in
+      let starts : start ≡ (record_of (ring_of st ws h) h.descriptor_idx).buffer = p ∙ sym (ap (λ (d : DmaDescriptor). d.buffer) (record_is st ws w h.descriptor_idx)) in
+      let flats : bytes ≡ flat_bytes u (record_in (records_of st ws)) (h.count - h.descriptor_idx) h.descriptor_idx =
+      q
+      ∙ rw (le-leb h.count limit k.split.parts.many)
+      (flat-like (record_at [] ws) (record_in (records_of st ws)) (cells-like st ws w) u (h.count - h.descriptor_idx) h.descriptor_idx) in
+      let f = part u (ring_of st ws h) len k in
+      record { starts = starts; flats = flats; forward = omega (arith, flats, f.forward); inside = omega (arith, starts, flats, f.inside) }
+
+  pub eof-read : {ends : Bool} → ends ≡ cond (nat_le h.count limit) (flat_eof (record_at [] ws) (h.count - h.descriptor_idx) h.descriptor_idx) false
+      → ends ≡ flat_eof (record_in (records_of st ws)) (h.count - h.descriptor_idx) h.descriptor_idx
+  eof-read e =
+      e
+      ∙ rw (le-leb h.count limit (known st ws h len s).split.parts.many)
+      (eof-like (record_at [] ws) (record_in (records_of st ws)) (cells-like st ws (held st ws h len s)) (h.count - h.descriptor_idx) h.descriptor_idx)
 
 pub part_length : (s f o : ℕ) → s + f - (s + o) ≡ f - o
 part_length s f o = omega arith

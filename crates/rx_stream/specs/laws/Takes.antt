@@ -1,8 +1,8 @@
 -- What is taken from the words is what is taken from the records that they show.
-use Rattle.std.specs.Prelude.{◌≡◌, ℕ, ◌+◌, ◌%◌, ◌^◌, ◌≤◌, Bool, true, false, ◌&&◌, ◌||◌, List, [], ◌==◌, refl, Err}
-use Rattle.std.proofs.Common.{sym, ◌∙◌, arith}
+use Rattle.std.specs.Prelude.{◌≡◌, ℕ, ◌+◌, ◌%◌, ◌^◌, ◌≤◌, Bool, true, false, cond, ◌&&◌, ◌||◌, List, [], ◌==◌, nat_le, refl, Err}
+use Rattle.std.proofs.Common.{sym, ◌∙◌, arith, le-leb}
 use Rattle.std.proofs.Math.Path.{ap}
-use Rattle.descriptors.specs.Record.{record_in, is_cpu, up_to}
+use Rattle.descriptors.specs.Record.{limit, record_in, is_cpu, up_to}
 use Rattle.descriptors.specs.Place.{turns}
 use Rattle.descriptors.specs.Cells.{are_records, records_of, record_at, cells_now}
 use Rattle.descriptors.specs.Stores.{hand_cells, hand_all, link_cells, link_all}
@@ -83,6 +83,11 @@ module _ (st ws : List ℕ) (h : Head) (len : ℕ) (s : sound In (ring_of st ws 
 
   pub run-shown : run_bytes In (record_at [] ws) h.count h.count h.descriptor_idx ≡ run_bytes In (record_in (records_of st ws)) h.count h.count h.descriptor_idx
   run-shown = run-alike In (record_at [] ws) (record_in (records_of st ws)) h.count (cells-alike In st ws held) h.count h.descriptor_idx
+
+  -- what the code reads of the words: the bytes of the run
+  pub run-read : {total : ℕ} → total ≡ cond (nat_le h.count limit) (run_bytes In (record_at [] ws) h.count h.count h.descriptor_idx) 0
+      → total ≡ run_bytes In (record_in (records_of st ws)) h.count h.count h.descriptor_idx
+  run-read e = e ∙ rw (le-leb h.count limit known.split.parts.many) run-shown
 
 pub linked-cells : (st ws : List ℕ) (h : Head) (len : ℕ) → split_sound (ring_of st ws h) len ≡ true
     → link_all In h.count ws ≡ cells_now st ws (linked_all In h.count (records_of st ws))

@@ -1,5 +1,5 @@
 -- What the walk and the stores on the words are to the ring, where it is sound.
-use Rattle.std.specs.Prelude.{◌≡◌, ℕ, ◌+◌, ◌-◌, ◌%◌, ◌^◌, ◌≤◌, Bool, true, false, cond, List, [], nat_le, refl, Ok, Err}
+use Rattle.std.specs.Prelude.{◌≡◌, ℕ, ◌+◌, ◌-◌, ◌%◌, ◌^◌, min, ◌<◌, ◌≤◌, Bool, true, false, cond, List, [], nat_le, refl, Ok, Err}
 use Rattle.std.proofs.Common.{sym, ◌∙◌, arith, le-leb}
 use Rattle.std.proofs.Math.Path.{ap}
 use Rattle.descriptors.specs.Record.{limit, record_in}
@@ -18,7 +18,8 @@ use Rattle.descriptors.specs.declared.refusal.DmaBufError.TheVariants.{TooMuch}
 use Rattle.descriptors.specs.declared.ring.Head.{Head}
 use Rattle.descriptors.specs.declared.walk.Moved.{Moved}
 use Rattle.descriptors.specs.Refusal.{Answer}
-use Rattle.tx_stream.specs.Transmit.{accepted_up_to, write_at}
+use Rattle.tx_stream.specs.Transmit.{accepted_up_to, write_at, offered}
+use Rattle.tx_stream.specs.laws.Room.{place_in}
 use Rattle.tx_stream.specs.Faces.{room_of, walked, filled_cells, filled_head}
 
 module _ (st ws : List ℕ) (h : Head) (len : ℕ) (s : sound Out (ring_of st ws h) len ≡ true) where
@@ -37,6 +38,13 @@ module _ (st ws : List ℕ) (h : Head) (len : ℕ) (s : sound Out (ring_of st ws
 
   pub place_is : start_at st h.descriptor_idx + h.descriptor_offset ≡ write_at (ring_of st ws h)
   place_is = sym (ap (λ (d : DmaDescriptor). d.buffer + h.descriptor_offset) (record_is st ws held h.descriptor_idx))
+
+  pub place-within : start_at st h.descriptor_idx + h.descriptor_offset < len
+  place-within = omega (arith, place_is, place_in (ring_of st ws h) len s)
+
+  -- the part on offer from the place where the next byte goes
+  pub part-is : (p : ℕ) → p ≡ start_at st h.descriptor_idx + h.descriptor_offset → min (room_of ws h) (len - p) ≡ offered (ring_of st ws h) len
+  part-is p e = rw (e, place_is, room-is) refl
 
   walked-is : (k : ℕ) → walked ws h k ≡ planned Out (ring_of st ws h) k
   unfolding planned

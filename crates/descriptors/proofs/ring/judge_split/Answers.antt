@@ -1,98 +1,56 @@
-use Rattle.descriptors.specs.laws.Tests.{and-pass, and-fail}
-use Rattle.descriptors.specs.declared.ring.Head.{Head}
-use Rattle.descriptors.specs.laws.Sound.{split-refused, split-no-records, split_by, split-stops}
+use Rattle.descriptors.specs.laws.Sound.{split-refused, split-no-records, split_by, split-stops, judged_true, judged_false}
 use Rattle.descriptors.specs.laws.Splits.{Known, parts-known}
 use Rattle.descriptors.specs.laws.Lifts.{words}
-use Rattle.descriptors.specs.Ring.{ring_of, split_sound, judged}
+use Rattle.descriptors.specs.Ring.{ring_of, judged}
 use Rattle.descriptors.specs.Split.{is_parts}
-use Rattle.descriptors.specs.Cells.{are_records}
-use Rattle.std.proofs.Common.{◌≡◌, ℕ, true, ◌&&◌, leb, List, sym, ap, ◌∙◌, arith, le-leb}
-use borrow.Author.Tests.{lt-leb, not-true, not-false}
+use Rattle.std.proofs.Common.{sym, refl, ap, ◌∙◌, arith, le-leb}
+use borrow.Author.Tests.{lt-leb}
+use Rattle.descriptors.proofs.ring.judge_split.Goals.{In-Ok, else-are_records-via-then-are_records+then-starts_ok+then-sizes_ok+else-h-len, else-are_records-via-then-are_records+then-starts_ok+else-sizes_ok, else-are_records-via-then-are_records+else-starts_ok, else-are_records-via-else-are_records}
 use Rattle.descriptors.proofs.ring.judge_split.Goals as goal
+
+-- what is known of the split
+known : (c : In-Ok) → Known c.args.h.count c.args.len c.in-Ok.field-0.chunk c.in-Ok.field-0.rest
+known c = parts-known _ _ _ (sym c.split_of.ensures ∙ c.in-Ok.is)
 
 pub returns-in_default : goal.returns-in_default
 returns-in_default c =
     let a = c.args in
     ap judged (sym (split-refused (ring_of a.s.now a.w.now a.h) a.len (ap is_parts (sym c.split_of.ensures ∙ c.in_default.is))))
 
-pub returns-then-not-are_records : goal.returns-then-not-are_records
-returns-then-not-are_records c =
-    let st : List ℕ = c.args.s.now in
-    let ws : List ℕ = c.args.w.now in
-    let head : Head = c.args.h in
-    let size : ℕ = c.args.len in
-    let known : Known head.count size c.in-Ok.field-0.chunk c.in-Ok.field-0.rest = parts-known _ _ _ (sym c.split_of.ensures ∙ c.in-Ok.is) in
-    ap judged (sym (split-no-records st ws head size (sym c.are_records.ensures ∙ not-true _ c.if-not-are_records.true-raw) known.facts))
-
 pub starts_ok-requires : goal.starts_ok-requires
 starts_ok-requires c =
-    let st : List ℕ = c.args.s.now in
-    let ws : List ℕ = c.args.w.now in
-    let head : Head = c.args.h in
-    let size : ℕ = c.args.len in
-    let known : Known head.count size c.in-Ok.field-0.chunk c.in-Ok.field-0.rest = parts-known _ _ _ (sym c.split_of.ensures ∙ c.in-Ok.is) in
-    let held : are_records st ws ≡ true = sym c.are_records.ensures ∙ not-false _ c.if-not-are_records.false-raw in
-    ((words st ws held).starts, known.facts.many, omega (arith, known.chunk-is, known.facts.chunk))
-
-pub returns-then-not-starts_ok : goal.returns-then-not-starts_ok
-returns-then-not-starts_ok c =
-    let st : List ℕ = c.args.s.now in
-    let ws : List ℕ = c.args.w.now in
-    let head : Head = c.args.h in
-    let size : ℕ = c.args.len in
-    let known : Known head.count size c.in-Ok.field-0.chunk c.in-Ok.field-0.rest = parts-known _ _ _ (sym c.split_of.ensures ∙ c.in-Ok.is) in
-    let held : are_records st ws ≡ true = sym c.are_records.ensures ∙ not-false _ c.if-not-are_records.false-raw in
-    ap judged (sym (split-stops st ws head size _ _ known held _ c.starts_ok.ensures (not-true _ c.if-not-starts_ok.true-raw)))
+    let k = known (goal.at.starts_ok-requires c).In-Ok in
+    ((words _ _ (sym c.are_records.ensures ∙ c.if-are_records.true)).starts, k.facts.many, omega (arith, k.chunk-is, k.facts.chunk))
 
 pub overflow_add-chunk : goal.overflow_add-chunk
 overflow_add-chunk c =
-    let head : Head = c.args.h in
-    let size : ℕ = c.args.len in
-    let known : Known head.count size c.in-Ok.field-0.chunk c.in-Ok.field-0.rest = parts-known _ _ _ (sym c.split_of.ensures ∙ c.in-Ok.is) in
-    omega (arith, known.chunk-is, known.rest-is, known.facts.last)
+    let k = known (goal.at.overflow_add-chunk c).In-Ok in
+    omega (arith, k.chunk-is, k.rest-is, k.facts.last)
 
 pub sizes_ok-requires : goal.sizes_ok-requires
 sizes_ok-requires c =
-    let st : List ℕ = c.args.s.now in
-    let ws : List ℕ = c.args.w.now in
-    let head : Head = c.args.h in
-    let size : ℕ = c.args.len in
-    let known : Known head.count size c.in-Ok.field-0.chunk c.in-Ok.field-0.rest = parts-known _ _ _ (sym c.split_of.ensures ∙ c.in-Ok.is) in
-    let held : are_records st ws ≡ true = sym c.are_records.ensures ∙ not-false _ c.if-not-are_records.false-raw in
-    ((words st ws held).whole, omega (arith, known.facts.few), known.facts.many, omega (arith, known.chunk-is, known.facts.chunk), omega (arith, known.chunk-is, known.rest-is, known.facts.last))
+    let k = known (goal.at.sizes_ok-requires c).In-Ok in
+    ((words _ _ (sym c.are_records.ensures ∙ c.if-are_records.true)).whole, omega (arith, k.facts.few), k.facts.many, omega (arith, k.chunk-is, k.facts.chunk), omega (arith, k.chunk-is, k.rest-is, k.facts.last))
 
-pub returns-then-not-sizes_ok : goal.returns-then-not-sizes_ok
-returns-then-not-sizes_ok c =
-    let head : Head = c.args.h in
-    let size : ℕ = c.args.len in
-    let st : List ℕ = c.args.s.now in
-    let known : Known head.count size c.in-Ok.field-0.chunk c.in-Ok.field-0.rest = parts-known _ _ _ (sym c.split_of.ensures ∙ c.in-Ok.is) in
-    let ws : List ℕ = c.args.w.now in
-    let held : are_records st ws ≡ true = sym c.are_records.ensures ∙ not-false _ c.if-not-are_records.false-raw in
-    let tested : split_sound (ring_of st ws head) size ≡ (c.sizes_ok.result && leb head.pre_filled size) = split_by st ws head size _ _ known held _ _ c.starts_ok.ensures c.sizes_ok.ensures
-    ∙ and-pass c.starts_ok.result (c.sizes_ok.result && leb head.pre_filled size) (not-false _ c.if-not-starts_ok.false-raw) in
-    ap judged (sym (tested ∙ and-fail c.sizes_ok.result (leb head.pre_filled size) (not-true _ c.if-not-sizes_ok.true-raw)))
-
-pub returns-then-len-h : goal.returns-then-len-h
-returns-then-len-h c =
-    let head : Head = c.args.h in
-    let size : ℕ = c.args.len in
-    let st : List ℕ = c.args.s.now in
-    let known : Known head.count size c.in-Ok.field-0.chunk c.in-Ok.field-0.rest = parts-known _ _ _ (sym c.split_of.ensures ∙ c.in-Ok.is) in
-    let ws : List ℕ = c.args.w.now in
-    let held : are_records st ws ≡ true = sym c.are_records.ensures ∙ not-false _ c.if-not-are_records.false-raw in
-    let tested : split_sound (ring_of st ws head) size ≡ (c.sizes_ok.result && leb head.pre_filled size) = split_by st ws head size _ _ known held _ _ c.starts_ok.ensures c.sizes_ok.ensures
-    ∙ and-pass c.starts_ok.result (c.sizes_ok.result && leb head.pre_filled size) (not-false _ c.if-not-starts_ok.false-raw) in
-    ap judged (sym (tested ∙ and-pass c.sizes_ok.result (leb head.pre_filled size) (not-false _ c.if-not-sizes_ok.false-raw) ∙ lt-leb _ _ c.if-len-h.true))
+pub returns-then-h-len : goal.returns-then-h-len
+returns-then-h-len c =
+    let a = c.args in
+    let k = known (goal.at.returns-then-h-len c).In-Ok in
+    judged_true _ (split_by a.s.now a.w.now a.h a.len _ _ k (sym c.are_records.ensures ∙ c.if-are_records.true) _ _ c.starts_ok.ensures c.sizes_ok.ensures
+    ∙ rw (c.if-starts_ok.true, c.if-sizes_ok.true) (le-leb _ _ c.if-h-len.true))
 
 pub returns : goal.returns
 returns c =
-    let head : Head = c.args.h in
-    let size : ℕ = c.args.len in
-    let st : List ℕ = c.args.s.now in
-    let known : Known head.count size c.in-Ok.field-0.chunk c.in-Ok.field-0.rest = parts-known _ _ _ (sym c.split_of.ensures ∙ c.in-Ok.is) in
-    let ws : List ℕ = c.args.w.now in
-    let held : are_records st ws ≡ true = sym c.are_records.ensures ∙ not-false _ c.if-not-are_records.false-raw in
-    let tested : split_sound (ring_of st ws head) size ≡ (c.sizes_ok.result && leb head.pre_filled size) = split_by st ws head size _ _ known held _ _ c.starts_ok.ensures c.sizes_ok.ensures
-    ∙ and-pass c.starts_ok.result (c.sizes_ok.result && leb head.pre_filled size) (not-false _ c.if-not-starts_ok.false-raw) in
-    ap judged (sym (tested ∙ and-pass c.sizes_ok.result (leb head.pre_filled size) (not-false _ c.if-not-sizes_ok.false-raw) ∙ le-leb _ _ c.if-len-h.false))
+    let a = c.args in
+    let k = known (goal.at.returns c).In-Ok in
+    judged_false _ (elim c.else-are_records.branch [
+      else-are_records-via-then-are_records+then-starts_ok+then-sizes_ok+else-h-len w ↦
+        split_by a.s.now a.w.now a.h a.len _ _ k (sym c.are_records.ensures ∙ w.if-are_records.true) _ _ w.starts_ok.ensures w.sizes_ok.ensures
+        ∙ rw (w.if-starts_ok.true, w.if-sizes_ok.true) (lt-leb _ _ w.if-h-len.false)
+    | else-are_records-via-then-are_records+then-starts_ok+else-sizes_ok w ↦
+        split_by a.s.now a.w.now a.h a.len _ _ k (sym c.are_records.ensures ∙ w.if-are_records.true) _ _ w.starts_ok.ensures w.sizes_ok.ensures
+        ∙ rw (w.if-starts_ok.true, w.if-sizes_ok.false) refl
+    | else-are_records-via-then-are_records+else-starts_ok w ↦
+        split-stops a.s.now a.w.now a.h a.len _ _ k (sym c.are_records.ensures ∙ w.if-are_records.true) _ w.starts_ok.ensures w.if-starts_ok.false
+    | else-are_records-via-else-are_records w ↦
+        split-no-records a.s.now a.w.now a.h a.len (sym c.are_records.ensures ∙ w.if-are_records.false) k.facts ])

@@ -1,10 +1,7 @@
-use Rattle.std.proofs.Common.{◌-◌, ◌≡◌, ◌≤◌}
+use Rattle.std.proofs.Common.{◌≡◌}
 use Rattle.lent.proofs.Lists.{placed}
 use Rattle.lent.proofs.list.new_over.Given as goal
 
 -- the first i records are at their places
 abbrev pub invariant-loop-i : goal.invariant-loop-i
-invariant-loop-i l = record { in_range : l.i ≤ l.n; so_far : l.ds ≡ placed l.dir l.len l.fn.ds l.i }
-
-abbrev pub decreases-loop-i : goal.decreases-loop-i
-decreases-loop-i l = l.n - l.i
+invariant-loop-i l = record { so_far : l.ds ≡ placed l.dir l.len l.fn.ds l.i }

@@ -3,7 +3,7 @@ use Rattle.psram.specs.laws.Lists.{covered_none, covered_more}
 use borrow.Author.Rules.{rules}
 use Rattle.psram.specs.List.{list_start, list_cells}
 use native.Mathlib.Omega.{arith}
-use mathlib.Core.Path.{◌≡◌, refl, sym, ◌∙◌, ap}
+use mathlib.Core.Path.{refl, sym, ◌∙◌, ap}
 use Rattle.psram.proofs.list.list_pieces.Goals as goal
 
 pub loop-i-init : goal.loop-i-init
@@ -22,9 +22,3 @@ loop-i-preserved c =
       l.ensures.2 ∙ ap (list_start a.p c.loop-i.i) c.loop-i.invariant.4 ∙ sym (up_more (list_start a.p) c.loop-i.i a.s.now),
       l.ensures.3 ∙ ap (list_cells a.p c.loop-i.i) c.loop-i.invariant.5 ∙ sym (up_more (list_cells a.p) c.loop-i.i a.w.now),
     )
-
-pub returns : goal.returns
-returns c =
-    let a = c.args in
-    let z : c.loop-i.i ≡ a.used = omega arith in
-    (rw z at c.loop-i.invariant.3, rw z at c.loop-i.invariant.4, rw z at c.loop-i.invariant.5)

@@ -1,13 +1,11 @@
 use Rattle.std.proofs.lemmas.Result.{err_from_is_err_and}
 use Rattle.rx_stream.specs.laws.Answers.{available-refused, available-done}
-use Rattle.rx_stream.specs.laws.Takes.{unsound, known, offset-run, run-shown}
+use Rattle.rx_stream.specs.laws.Takes.{unsound, offset-run, run-read}
 use Rattle.descriptors.specs.laws.Sound.{ready-split}
-use Rattle.descriptors.specs.Walk.{available_in, run_bytes}
-use Rattle.descriptors.specs.Ring.{ring_of}
-use Rattle.descriptors.specs.Cells.{records_of}
-use Rattle.descriptors.specs.Record.{limit, record_in}
+use Rattle.descriptors.specs.Walk.{available_in}
+use Rattle.descriptors.specs.Ring.{ring_of, sound}
 use Rattle.descriptors.specs.declared.record.TransferDirection.TheVariants.{In}
-use Rattle.std.proofs.Common.{◌≡◌, ℕ, ◌-◌, sym, ap, ◌∙◌, arith, le-leb, Ok}
+use Rattle.std.proofs.Common.{◌≡◌, true, ℕ, ◌-◌, sym, ap, ◌∙◌, arith, Ok}
 use Rattle.rx_stream.proofs.in_place.available_in.Goals as goal
 
 pub returns-in_err-judge : goal.returns-in_err-judge
@@ -20,16 +18,13 @@ returns-in_err-judge c =
 pub overflow_sub-result : goal.overflow_sub-result
 overflow_sub-result c =
     let a = c.args in
-    let passed = ready-split _ _ _ c.judge.ensures c.in_ok-judge.was in
-    let total : c.run_bytes-total.result ≡ run_bytes In (record_in (records_of a.s.now a.w.now)) a.h.count a.h.count a.h.descriptor_idx =
-    c.run_bytes-total.ensures ∙ rw (le-leb a.h.count limit (known a.s.now a.w.now a.h a.len passed).split.parts.many) (run-shown a.s.now a.w.now a.h a.len passed) in
-    omega (arith, total, offset-run a.s.now a.w.now a.h a.len passed)
+    let passed : sound In (ring_of a.s.now a.w.now a.h) a.len ≡ true = ready-split _ _ _ c.judge.ensures c.in_ok-judge.was in
+    omega (arith, run-read a.s.now a.w.now a.h a.len passed c.run_bytes-total.ensures, offset-run a.s.now a.w.now a.h a.len passed)
 
 pub returns : goal.returns
 unfolding available_in
 returns c =
     let a = c.args in
     let passed = ready-split _ _ _ c.judge.ensures c.in_ok-judge.was in
-    let total : c.run_bytes-total.result ≡ run_bytes In (record_in (records_of a.s.now a.w.now)) a.h.count a.h.count a.h.descriptor_idx =
-    c.run_bytes-total.ensures ∙ rw (le-leb a.h.count limit (known a.s.now a.w.now a.h a.len passed).split.parts.many) (run-shown a.s.now a.w.now a.h a.len passed) in
-    ap (λ (k : ℕ). Ok (k - a.h.descriptor_offset)) total ∙ sym (available-done (ring_of a.s.now a.w.now a.h) a.len passed)
+    ap (λ (k : ℕ). Ok (k - a.h.descriptor_offset)) (run-read a.s.now a.w.now a.h a.len passed c.run_bytes-total.ensures)
+    ∙ sym (available-done (ring_of a.s.now a.w.now a.h) a.len passed)

@@ -20,6 +20,6 @@ returns c =
     let n : ℕ = a.h.now.count in
     let i : ℕ = a.h.now.descriptor_idx in (
       c.hand_over.ensures ∙ ap (λ (x : Moved). hand_all Out n x.back i a.w.now) c.walk_over-m.ensures,
-      rw (c.wrapping_add_u32.ensures.value ∙ tally-wraps a.h.now.tally (a.k - c.walk_over-m.result.rest))
+      rw (tally-wraps a.h.now.tally (a.k - c.walk_over-m.result.rest))
           (ap (λ (x : Moved). record { count = n; descriptor_idx = x.at; descriptor_offset = x.offset; tally = (a.h.now.tally + (a.k - x.rest)) % 2 ^ 32; pre_filled = a.h.now.pre_filled }) c.walk_over-m.ensures),
     )

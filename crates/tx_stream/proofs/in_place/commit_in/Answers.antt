@@ -1,13 +1,10 @@
 use Rattle.std.proofs.lemmas.Result.{err_from_is_err_and}
-use Rattle.std.proofs.Common.{ℕ, ◌-◌, min, refl, ap, ◌∙◌, arith}
-use Rattle.descriptors.specs.Walk.{available_in}
-use Rattle.descriptors.specs.Ring.{ring_of}
+use Rattle.std.proofs.Common.{refl, ◌∙◌, arith}
 use Rattle.descriptors.specs.laws.Words.{cells_same}
 use Rattle.descriptors.specs.laws.Sound.{ready-split}
-use Rattle.descriptors.specs.declared.record.TransferDirection.TheVariants.{Out}
 use Rattle.tx_stream.specs.Transmit.{commit_of}
-use Rattle.tx_stream.specs.laws.Room.{offset-fits, place_in}
-use Rattle.tx_stream.specs.laws.Accepts.{room-is, place_is, up_to}
+use Rattle.tx_stream.specs.laws.Room.{offset-fits}
+use Rattle.tx_stream.specs.laws.Accepts.{place-within, part-is, up_to}
 use Rattle.tx_stream.specs.laws.Rules.{unsound, commit-no}
 use Rattle.tx_stream.proofs.in_place.commit_in.Goals as goal
 
@@ -23,15 +20,13 @@ write_position-at-requires c = offset-fits _ _ (ready-split _ _ _ c.judge.ensure
 pub offered-part-requires : goal.offered-part-requires
 offered-part-requires c =
     let a = c.args in
-    let sure = ready-split _ _ _ c.judge.ensures c.in_ok-judge.was in
-    omega (arith, c.write_position-at.ensures ∙ place_is a.s.now a.w.now a.h.now a.len sure, place_in _ _ sure)
+    omega (arith, c.write_position-at.ensures, place-within a.s.now a.w.now a.h.now a.len (ready-split _ _ _ c.judge.ensures c.in_ok-judge.was))
 
 pub returns : goal.returns
 unfolding commit_of
 returns c =
     let a = c.args in
     let sure = ready-split _ _ _ c.judge.ensures c.in_ok-judge.was in
-    let e = c.offered-part.ensures ∙ ap (λ (free : ℕ). min free (a.len - c.write_position-at.result)) (room-is a.s.now a.w.now a.h.now a.len sure)
-    ∙ ap (λ (p : ℕ). min (available_in Out (ring_of a.s.now a.w.now a.h.now)) (a.len - p)) (c.write_position-at.ensures ∙ place_is a.s.now a.w.now a.h.now a.len sure) in
+    let e = c.offered-part.ensures ∙ part-is a.s.now a.w.now a.h.now a.len sure _ c.write_position-at.ensures in
     let u = up_to a.s.now a.w.now a.h.now a.len sure _ _ a.k e in
     record { w_after = c.accept_up_to.ensures.w_after ∙ u.0; h_after = c.accept_up_to.ensures.h_after ∙ u.1; value = c.accept_up_to.ensures.value ∙ u.2 }

@@ -7,8 +7,8 @@ use Rattle.descriptors.specs.laws.Sound.{ready-split}
 use Rattle.descriptors.specs.declared.record.TransferDirection.TheVariants.{Out}
 use Rattle.tx_stream.specs.Faces.{filled_cells, filled_head}
 use Rattle.tx_stream.specs.Transmit.{paste_round, write_at}
-use Rattle.tx_stream.specs.laws.Room.{offset-fits, place_in, room_fits}
-use Rattle.tx_stream.specs.laws.Accepts.{room-is, place_is, filled-cells, filled-head}
+use Rattle.tx_stream.specs.laws.Room.{offset-fits, room_fits}
+use Rattle.tx_stream.specs.laws.Accepts.{room-is, place_is, place-within, filled-cells, filled-head}
 use Rattle.tx_stream.specs.laws.Rules.{unsound, push-no, push-yes, push-into-no, push-into-yes}
 use Rattle.tx_stream.proofs.in_place.push_in.Goals as goal
 
@@ -28,8 +28,8 @@ copy_round-requires c =
     let a = c.args in
     let sure = ready-split _ _ _ c.judge.ensures c.in_ok-judge.was in
     let free = c.available.ensures ∙ room-is a.s.now a.w.now a.h.now (length a.buffer.now) sure in
-    let place = c.write_position.ensures ∙ place_is a.s.now a.w.now a.h.now (length a.buffer.now) sure in
-    (omega (arith, place, place_in _ _ sure), omega (arith, c.min-k.ensures, free, room_fits _ _ sure), omega (arith, c.min-k.ensures))
+    let place = place-within a.s.now a.w.now a.h.now (length a.buffer.now) sure in
+    (omega (arith, c.write_position.ensures, place), omega (arith, c.min-k.ensures, free, room_fits _ _ sure), omega (arith, c.min-k.ensures))
 
 pub returns : goal.returns
 returns c =

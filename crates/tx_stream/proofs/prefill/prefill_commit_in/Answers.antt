@@ -1,5 +1,5 @@
 use Rattle.std.proofs.lemmas.Result.{err_from_is_err_and}
-use Rattle.std.proofs.Common.{refl, arith, le-leb}
+use Rattle.std.proofs.Common.{refl, le-leb}
 use borrow.Author.Tests.{lt-leb}
 use Rattle.descriptors.specs.laws.Sound.{ready-split, split-facts}
 use Rattle.tx_stream.specs.laws.Rules.{unsound, prefill-commit-no, prefill-commit-much, prefill-commit-yes}
@@ -18,10 +18,6 @@ pub returns-then-len-h : goal.returns-then-len-h
 returns-then-len-h c =
     let sure = ready-split _ _ _ c.judge_split.ensures c.in_ok-judge_split.was in
     rw (prefill-commit-much _ _ sure c.args.k (lt-leb _ _ c.if-len-h.true)) record { h_after = refl; value = refl }
-
-pub prefilled_by-requires : goal.prefilled_by-requires
-prefilled_by-requires c =
-    omega (arith, c.if-len-h.false, (split-facts _ _ (ready-split _ _ _ c.judge_split.ensures c.in_ok-judge_split.was)).prefilled)
 
 pub returns : goal.returns
 returns c =

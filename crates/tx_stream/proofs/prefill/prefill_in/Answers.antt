@@ -17,17 +17,10 @@ returns-in_err-judge_split c =
 pub overflow_sub-buffer : goal.overflow_sub-buffer
 overflow_sub-buffer c = (split-facts _ _ (ready-split _ _ _ c.judge_split.ensures c.in_ok-judge_split.was)).prefilled
 
-pub slice_bounds-copy_to-end : goal.slice_bounds-copy_to-end
-slice_bounds-copy_to-end c = sym (length-take-le c.min-k.result c.args.«data».now (omega (arith, c.min-k.ensures)))
-
 pub copy_to-requires : goal.copy_to-requires
 copy_to-requires c =
-    let sure = ready-split _ _ _ c.judge_split.ensures c.in_ok-judge_split.was in
-    rw (length-take-le c.min-k.result c.args.«data».now (omega (arith, c.min-k.ensures))) (omega (arith, c.min-k.ensures, (split-facts _ _ sure).prefilled))
-
-pub prefilled_by-requires : goal.prefilled_by-requires
-prefilled_by-requires c =
-    omega (arith, c.min-k.ensures, (split-facts _ _ (ready-split _ _ _ c.judge_split.ensures c.in_ok-judge_split.was)).prefilled)
+    let bytes : List ℕ = c.args.«data».now in
+    omega (arith, length-take-le c.min-accepted.result bytes (omega (arith, c.min-accepted.ensures)), c.min-accepted.ensures, (split-facts _ _ (ready-split _ _ _ c.judge_split.ensures c.in_ok-judge_split.was)).prefilled)
 
 pub returns : goal.returns
 returns c =
@@ -36,8 +29,8 @@ returns c =
     let bytes : List ℕ = a.«data».now in
     let sure = ready-split _ _ _ c.judge_split.ensures c.in_ok-judge_split.was in
     rw (prefill-yes _ _ sure (length bytes)) record {
-      h_after = c.prefilled_by.ensures ∙ ap (prefilled_head a.h.now) c.min-k.ensures;
-      value = ap Ok c.min-k.ensures;
-      buffer_after = c.copy_to.ensures ∙ paste-front b a.h.now.pre_filled c.min-k.result bytes (omega (arith, c.min-k.ensures))
-          ∙ ap (paste b a.h.now.pre_filled bytes) c.min-k.ensures ∙ sym (into-yes _ b bytes sure);
+      h_after = c.prefilled_by.ensures ∙ ap (prefilled_head a.h.now) c.min-accepted.ensures;
+      value = ap Ok c.min-accepted.ensures;
+      buffer_after = c.copy_to.ensures ∙ paste-front b a.h.now.pre_filled c.min-accepted.result bytes (omega (arith, c.min-accepted.ensures))
+          ∙ ap (paste b a.h.now.pre_filled bytes) c.min-accepted.ensures ∙ sym (into-yes _ b bytes sure);
     }

@@ -1,14 +1,9 @@
 use Rattle.tx_stream.specs.laws.Prepares.{reached-none, reached-here, reached-on}
-use Rattle.tx_stream.specs.Transmit.{Reached, reached}
+use Rattle.tx_stream.specs.Transmit.{Reached}
 use Rattle.descriptors.specs.declared.record.DmaDescriptor.{DmaDescriptor}
 use Rattle.descriptors.specs.Cells.{record_at}
 use Rattle.std.proofs.Common.{◌≡◌, ℕ, ◌+◌, ◌-◌, [], sym, ap, ◌∙◌, arith}
 use Rattle.tx_stream.proofs.prepare.end_of.Goals as goal
-
-pub loop-d-init : goal.loop-d-init
-loop-d-init c =
-    let a = c.args in
-    ap (λ (k : ℕ). reached (record_at [] a.w.now) k 0 a.bytes_pushed) {x = a.n - 0} {y = a.n} (omega arith)
 
 pub returns-then-remaining-size : goal.returns-then-remaining-size
 returns-then-remaining-size c =

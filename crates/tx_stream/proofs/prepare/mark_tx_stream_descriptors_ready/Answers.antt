@@ -14,10 +14,6 @@ returns-then-end-n c =
     let q = marked_all a.n a.bytes_pushed a.w.now c.if-bytes_pushed-eq0.false (sym c.end_of-end.ensures.0 ∙ c.if-end-n.true) in
     (c.mark_filled.ensures ∙ q.0, q.1)
 
-pub overflow_cast-end : goal.overflow_cast-end
-overflow_cast-end c =
-    omega (arith, c.end_of-end.ensures.2 (omega (arith, c.if-end-eq0.true, c.requires)))
-
 pub returns-then-end-eq0 : goal.returns-then-end-eq0
 returns-then-end-eq0 c =
     let a = c.args in

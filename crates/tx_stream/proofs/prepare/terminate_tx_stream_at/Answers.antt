@@ -1,12 +1,9 @@
 use Rattle.tx_stream.specs.laws.Prepares.{cut-before, cut-first, cut-more}
 use Rattle.tx_stream.specs.Faces.{cut_cells}
 use Rattle.descriptors.specs.Record.{up_to}
-use Rattle.std.proofs.Common.{◌≡◌, refl, ◌∙◌, arith, rules}
+use Rattle.std.proofs.Common.{◌≡◌, ◌∙◌, arith, rules}
 use Rattle.tx_stream.proofs.prepare.terminate_tx_stream_at.Goals.{else-start-gt0, then-start-gt0}
 use Rattle.tx_stream.proofs.prepare.terminate_tx_stream_at.Goals as goal
-
-pub loop-i-init : goal.loop-i-init
-loop-i-init c = (refl, λ vs e. e)
 
 pub loop-i-preserved : goal.loop-i-preserved
 loop-i-preserved c =

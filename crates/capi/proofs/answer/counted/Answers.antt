@@ -1,9 +1,0 @@
-use Rattle.capi.specs.Answer.{counted_said}
-use mathlib.Core.Path.{sym, ap}
-use Rattle.capi.proofs.answer.counted.Goals as goal
-
-pub returns-in-Bytes : goal.returns-in-Bytes
-returns-in-Bytes c = ap counted_said (sym c.in-Bytes.is)
-
-pub returns-in-Refused : goal.returns-in-Refused
-returns-in-Refused c = ap counted_said (sym c.in-Refused.is)
