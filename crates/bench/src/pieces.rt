@@ -17,11 +17,13 @@ pub struct Middle {
 fn directs(address: u32, length: u32, chip: Chip) -> Middle {
     match cut::cut(address, length, chip) {
         Err(_) => Middle { start: 0, size: 0 },
-        Ok(Cut {
-            head,
-            middle,
-            tail: _,
-        }) => Middle {
+        Ok(
+            Cut {
+                head,
+                middle,
+                tail: _,
+            },
+        ) => Middle {
             start: head,
             size: middle,
         },

@@ -30,7 +30,12 @@ pub fn done(out: &mut [u8], at: usize, answer: Result<(), DmaBufError>) -> usize
     }
 }
 
-pub fn counted(out: &mut [u8], at: usize, word: &[u8], answer: Result<usize, DmaBufError>) -> usize {
+pub fn counted(
+    out: &mut [u8],
+    at: usize,
+    word: &[u8],
+    answer: Result<usize, DmaBufError>,
+) -> usize {
     match answer {
         Err(e) => refused(out, at, e),
         Ok(k) => {
@@ -41,7 +46,13 @@ pub fn counted(out: &mut [u8], at: usize, word: &[u8], answer: Result<usize, Dma
 }
 
 // The count where the answer is good.
-pub fn done_with(out: &mut [u8], at: usize, word: &[u8], k: usize, answer: Result<(), DmaBufError>) -> usize {
+pub fn done_with(
+    out: &mut [u8],
+    at: usize,
+    word: &[u8],
+    k: usize,
+    answer: Result<(), DmaBufError>,
+) -> usize {
     match answer {
         Err(e) => refused(out, at, e),
         Ok(()) => {

@@ -1,5 +1,6 @@
 -- A ring as one struct, words and head, that goes in and comes back by value.
 use Rattle.std.specs.Prelude.{ℕ, List, Ok, Err}
+use Rattle.std.specs.Result.{result_unwrap_or}
 use Rattle.descriptors.specs.Cells.{cells_now}
 use Rattle.descriptors.specs.Ring.{Outcome, ring_of, head_of}
 use Rattle.descriptors.specs.Ring as rule
@@ -40,8 +41,7 @@ whole st ws h =
 
 -- the bytes of an answer: a refusal has none
 abbrev pub bytes_of : Answer ℕ → ℕ
-bytes_of (Ok n) = n
-bytes_of (Err _) = 0
+bytes_of a = result_unwrap_or a 0
 
 abbrev pub taken_of : Answer Took → ℕ
 taken_of (Ok x) = x.taken

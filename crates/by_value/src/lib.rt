@@ -7,17 +7,17 @@ ghost use Rattle.rx_stream.specs.Receive.{peek_of, consume_of, pop_of, popped_ov
 ghost use Rattle.rx_stream.specs.Receive as receive;
 ghost use Rattle.tx_stream.specs.Transmit.{push_of, push_into, advance_of};
 ghost use Rattle.tx_stream.specs.Transmit as transmit;
-ghost use Rattle.by_value.specs.ByValue.{given, rx_of, tx_of, whole, bytes_of, taken_of, counted_of, took_of};
+ghost use Rattle.by_value.specs.ByValue.{given, head_in, rx_of, tx_of, whole, bytes_of, counted_of, took_of};
 
 use descriptors::cells::CELLS;
 use descriptors::record::LIMIT;
-use descriptors::ring::Head;
-use rx_stream::Took;
+use descriptors::ring::{Head, Kept};
 use rx_stream::view::DmaRxStreamBufView;
 use tx_stream::view::DmaTxStreamBufView;
 
+// Ring and Answered lie as C's structs do: the C interface.
 #[repr(C)]
-#[derive(Clone, Copy)]
+#[derive(Clone, Copy, Debug)]
 pub struct Ring {
     pub starts: [u32; LIMIT],
     pub cells: [u16; CELLS],
@@ -29,99 +29,80 @@ pub struct Ring {
 }
 
 #[repr(C)]
-#[derive(Clone, Copy)]
+#[derive(Clone, Copy, Debug)]
 pub struct Answered {
     pub ring: Ring,
     pub bytes: usize,
 }
 
-fn rx(ring: Ring) -> DmaRxStreamBufView
-    ensures { result ≡ rx_of ring }
-{
-    let starts = ring.starts;
-    let cells = ring.cells;
-    let head = Head {
-        count: ring.count,
-        descriptor_idx: ring.record,
-        descriptor_offset: ring.offset,
-        tally: ring.tally,
-        pre_filled: ring.prefilled,
-    };
-    DmaRxStreamBufView {
-        starts,
-        cells,
-        head,
+impl From<Ring> for Head {
+    ghost from_gives = { λ ring head. head ≡ head_in ring };
+
+    fn from(ring: Ring) -> Head {
+        Head {
+            count: ring.count,
+            descriptor_idx: ring.record,
+            descriptor_offset: ring.offset,
+            tally: ring.tally,
+            pre_filled: ring.prefilled,
+        }
     }
 }
 
-fn tx(ring: Ring) -> DmaTxStreamBufView
-    ensures { result ≡ tx_of ring }
-{
-    let starts = ring.starts;
-    let cells = ring.cells;
-    let head = Head {
-        count: ring.count,
-        descriptor_idx: ring.record,
-        descriptor_offset: ring.offset,
-        tally: ring.tally,
-        pre_filled: ring.prefilled,
-    };
-    DmaTxStreamBufView {
-        starts,
-        cells,
-        head,
+impl From<Ring> for DmaRxStreamBufView {
+    ghost from_gives = { λ ring view. view ≡ rx_of ring };
+
+    fn from(ring: Ring) -> DmaRxStreamBufView {
+        let Ring { starts, cells, .. } = ring;
+        DmaRxStreamBufView {
+            starts,
+            cells,
+            head: Head::from(ring),
+        }
     }
 }
 
-fn from_rx(view: DmaRxStreamBufView) -> Ring
-    ensures { result ≡ whole view.starts view.cells view.head }
+impl From<Ring> for DmaTxStreamBufView {
+    ghost from_gives = { λ ring view. view ≡ tx_of ring };
+
+    fn from(ring: Ring) -> DmaTxStreamBufView {
+        let Ring { starts, cells, .. } = ring;
+        DmaTxStreamBufView {
+            starts,
+            cells,
+            head: Head::from(ring),
+        }
+    }
+}
+
+// Words and head in one struct.
+fn whole(starts: [u32; LIMIT], cells: [u16; CELLS], head: Head) -> Ring
+    ensures { result ≡ whole starts cells head }
 {
-    let starts = view.starts;
-    let cells = view.cells;
-    let h = view.head;
     Ring {
         starts,
         cells,
-        count: h.count,
-        record: h.descriptor_idx,
-        offset: h.descriptor_offset,
-        tally: h.tally,
-        prefilled: h.pre_filled,
+        count: head.count,
+        record: head.descriptor_idx,
+        offset: head.descriptor_offset,
+        tally: head.tally,
+        prefilled: head.pre_filled,
     }
 }
 
-fn from_tx(view: DmaTxStreamBufView) -> Ring
-    ensures { result ≡ whole view.starts view.cells view.head }
-{
-    let starts = view.starts;
-    let cells = view.cells;
-    let h = view.head;
-    Ring {
-        starts,
-        cells,
-        count: h.count,
-        record: h.descriptor_idx,
-        offset: h.descriptor_offset,
-        tally: h.tally,
-        prefilled: h.pre_filled,
+impl From<DmaRxStreamBufView> for Ring {
+    ghost from_gives = { λ view ring. ring ≡ whole view.starts view.cells view.head };
+
+    fn from(view: DmaRxStreamBufView) -> Ring {
+        whole(view.starts, view.cells, view.head)
     }
 }
 
-fn counted(answer: Result<usize, DmaBufError>) -> usize
-    ensures { result ≡ bytes_of answer }
-{
-    match answer {
-        Ok(bytes) => bytes,
-        Err(_) => 0,
-    }
-}
+impl From<DmaTxStreamBufView> for Ring {
+    ghost from_gives = { λ view ring. ring ≡ whole view.starts view.cells view.head };
 
-fn taken(answer: Result<Took, DmaBufError>) -> usize
-    ensures { result ≡ taken_of answer }
-{
-    match answer {
-        Ok(Took { taken, back: _ }) => taken,
-        Err(_) => 0,
+    fn from(view: DmaTxStreamBufView) -> Ring {
+        whole(view.starts, view.cells, view.head)
     }
 }
 
@@ -129,27 +110,26 @@ fn taken(answer: Result<Took, DmaBufError>) -> usize
 pub extern "C" fn value_rx_available(ring: Ring, len: usize) -> usize
     ensures { result ≡ bytes_of (receive.available_of (given ring) len) }
 {
-    counted(rx(ring).available_bytes(len))
+    DmaRxStreamBufView::from(ring)
+        .available_bytes(len)
+        .unwrap_or(0)
 }
 
 #[unsafe(no_mangle)]
 pub extern "C" fn value_rx_peek(ring: Ring, buffer: &[u8]) -> usize
     ensures { result ≡ length (peek_of false (given ring) buffer.now) }
 {
-    let part = rx(ring).peek(buffer);
-    part.len()
+    DmaRxStreamBufView::from(ring).peek(buffer).len()
 }
 
 #[unsafe(no_mangle)]
 pub extern "C" fn value_rx_consume(ring: Ring, len: usize, k: usize) -> Answered
     ensures { result ≡ took_of ring (consume_of (given ring) len k) }
 {
-    let m = rx(ring).consume(len, k);
-    let view = m.ring;
-    let answer = m.answer;
+    let Kept { ring, answer } = DmaRxStreamBufView::from(ring).consume(len, k);
     Answered {
-        ring: from_rx(view),
-        bytes: taken(answer),
+        ring: Ring::from(ring),
+        bytes: answer.map_or(0, |took| took.taken),
     }
 }
 
@@ -158,12 +138,10 @@ pub extern "C" fn value_rx_pop(ring: Ring, buffer: &[u8], destination: &mut [u8]
     ensures value { result ≡ counted_of ring (pop_of (given ring) (length buffer.now) (length destination.old)) }
     ensures destination_after { destination.new ≡ popped_over (given ring) buffer.now destination.old }
 {
-    let m = rx(ring).pop(buffer, destination);
-    let view = m.ring;
-    let answer = m.answer;
+    let Kept { ring, answer } = DmaRxStreamBufView::from(ring).pop(buffer, destination);
     Answered {
-        ring: from_rx(view),
-        bytes: counted(answer),
+        ring: Ring::from(ring),
+        bytes: answer.unwrap_or(0),
     }
 }
 
@@ -171,7 +149,9 @@ pub extern "C" fn value_rx_pop(ring: Ring, buffer: &[u8], destination: &mut [u8]
 pub extern "C" fn value_tx_available(ring: Ring, len: usize) -> usize
     ensures { result ≡ bytes_of (transmit.available_of (given ring) len) }
 {
-    counted(tx(ring).available_bytes(len))
+    DmaTxStreamBufView::from(ring)
+        .available_bytes(len)
+        .unwrap_or(0)
 }
 
 #[unsafe(no_mangle)]
@@ -179,12 +159,10 @@ pub extern "C" fn value_tx_push(ring: Ring, buffer: &mut [u8], data: &[u8]) -> A
     ensures value { result ≡ counted_of ring (push_of (given ring) (length buffer.old) (length «data».now)) }
     ensures buffer_after { buffer.new ≡ push_into (given ring) buffer.old «data».now }
 {
-    let m = tx(ring).push(buffer, data);
-    let view = m.ring;
-    let answer = m.answer;
+    let Kept { ring, answer } = DmaTxStreamBufView::from(ring).push(buffer, data);
     Answered {
-        ring: from_tx(view),
-        bytes: counted(answer),
+        ring: Ring::from(ring),
+        bytes: answer.unwrap_or(0),
     }
 }
 
@@ -192,11 +170,9 @@ pub extern "C" fn value_tx_push(ring: Ring, buffer: &mut [u8], data: &[u8]) -> A
 pub extern "C" fn value_tx_advance(ring: Ring, len: usize, k: usize) -> Answered
     ensures { result ≡ counted_of ring (advance_of (given ring) len k) }
 {
-    let m = tx(ring).advance(len, k);
-    let view = m.ring;
-    let answer = m.answer;
+    let Kept { ring, answer } = DmaTxStreamBufView::from(ring).advance(len, k);
     Answered {
-        ring: from_tx(view),
-        bytes: counted(answer),
+        ring: Ring::from(ring),
+        bytes: answer.unwrap_or(0),
     }
 }

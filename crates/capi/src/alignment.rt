@@ -18,6 +18,7 @@ fn direction_of(direction: u32) -> TransferDirection
     }
 }
 
+#[tactic(auto, unfolding(crate::specs::Alignment::compatible_number))]
 #[unsafe(no_mangle)]
 pub extern "C" fn dma_ensure_buffer_compatible(
     address: u32,

@@ -10,7 +10,13 @@ use descriptors::ring::Head;
 use descriptors::{cells, ring};
 use rx_stream::piece;
 
-pub(crate) fn peeked<'a>(s: &'a [u32], w: &'a [u16], h: Head, until_eof: bool, len: usize) -> Result<Said, DmaBufError>
+pub(crate) fn peeked<'a>(
+    s: &'a [u32],
+    w: &'a [u16],
+    h: Head,
+    until_eof: bool,
+    len: usize,
+) -> Result<Said, DmaBufError>
     ensures { result ≡ peek_said until_eof (ring_of s.now w.now h) len }
 {
     ring::judge(TransferDirection::In, s, w, h, len)?;
@@ -25,7 +31,12 @@ pub(crate) fn peeked<'a>(s: &'a [u32], w: &'a [u16], h: Head, until_eof: bool, l
 }
 
 // The same with the yes or no.
-pub(crate) fn until_eof<'a>(s: &'a [u32], w: &'a [u16], h: Head, len: usize) -> Result<Said, DmaBufError>
+pub(crate) fn until_eof<'a>(
+    s: &'a [u32],
+    w: &'a [u16],
+    h: Head,
+    len: usize,
+) -> Result<Said, DmaBufError>
     ensures { result ≡ until_eof_said (ring_of s.now w.now h) len }
 {
     let said = peeked(s, w, h, true, len)?;

@@ -11,6 +11,7 @@ use descriptors::ring;
 use descriptors::ring::Head;
 
 // The head is written where the ring is made.
+#[tactic(auto, unfolding(crate::specs::New::new_starts, crate::specs::New::new_cells, crate::specs::New::new_head, crate::specs::New::new_number, crate::specs::Words::head_made))]
 pub(crate) fn new(
     dir: TransferDirection,
     head: &mut [u64],

@@ -10,7 +10,12 @@ use descriptors::ring::Head;
 use tx_stream::{in_place, prefill};
 
 // The free bytes from the cursor to the buffer's end.
-pub(crate) fn offered<'a>(s: &'a [u32], w: &'a [u16], h: Head, len: usize) -> Result<Said, DmaBufError>
+pub(crate) fn offered<'a>(
+    s: &'a [u32],
+    w: &'a [u16],
+    h: Head,
+    len: usize,
+) -> Result<Said, DmaBufError>
     ensures { result ≡ offer_said (ring_of s.now w.now h) len }
 {
     let free = in_place::available_in(s, w, h, len)?;
@@ -23,7 +28,12 @@ pub(crate) fn offered<'a>(s: &'a [u32], w: &'a [u16], h: Head, len: usize) -> Re
 }
 
 // Before `prepare`: all behind the prefilled bytes.
-pub(crate) fn prefill_offered<'a>(s: &'a [u32], w: &'a [u16], h: Head, len: usize) -> Result<Said, DmaBufError>
+pub(crate) fn prefill_offered<'a>(
+    s: &'a [u32],
+    w: &'a [u16],
+    h: Head,
+    len: usize,
+) -> Result<Said, DmaBufError>
     ensures { result ≡ prefill_offer_said (ring_of s.now w.now h) len }
 {
     prefill::prefill_offer_refusal_in(s, w, h, len)?;

@@ -44,7 +44,15 @@ pub extern "C" fn dma_rx_step(
     let ready = step_ready(answer, device, eof);
     let h = words::head_of(head, ready);
     let mut place = words::place_of(device, ready);
-    let outcome = receive::receive_step_in(starts, cells, h, &mut place, buffer, incoming, is_eof(eof));
+    let outcome = receive::receive_step_in(
+        starts,
+        cells,
+        h,
+        &mut place,
+        buffer,
+        incoming,
+        is_eof(eof),
+    );
     words::put_place(device, ready, place);
     answer::put(answer, outcome.and(Ok(incoming.len())))
 }

@@ -64,11 +64,7 @@ fn scan_end(n: usize, chunk: usize, last: usize) -> usize
     requires { 0 < n }
     ensures { result ≡ (if nat_eq last chunk then n else n - 1) }
 {
-    if last == chunk {
-        n
-    } else {
-        n - 1
-    }
+    if last == chunk { n } else { n - 1 }
 }
 
 fn sizes_ok(w: &[u16], n: usize, chunk: usize, last: usize) -> bool
@@ -192,11 +188,7 @@ fn fresh(n: usize) -> Head
     }
 }
 
-#[tactic(
-    auto,
-    using(crate::specs::laws::Updates::up_none, crate::specs::laws::Updates::up_more),
-    unfolding(crate::specs::Stores::lay_start, crate::specs::Split::start_of)
-)]
+#[tactic(auto, using(crate::specs::laws::Updates::up_none, crate::specs::laws::Updates::up_more), unfolding(crate::specs::Stores::lay_start, crate::specs::Split::start_of))]
 fn lay_starts(s: &mut [u32], n: usize, len: usize, chunk: usize)
     requires { (n ≤ limit) × (chunk ≤ 4095) × (chunk ≡ len / n) }
     ensures { s.new ≡ up_to (lay_start n len) n s.old }
@@ -226,11 +218,7 @@ fn size_at(n: usize, i: usize, chunk: usize, rest: usize) -> u16
     }
 }
 
-#[tactic(
-    auto,
-    using(crate::specs::laws::Updates::up_none, crate::specs::laws::Updates::up_more),
-    unfolding(crate::specs::Stores::lay_cells, crate::specs::Split::size_of)
-)]
+#[tactic(auto, using(crate::specs::laws::Updates::up_none, crate::specs::laws::Updates::up_more), unfolding(crate::specs::Stores::lay_cells, crate::specs::Split::size_of))]
 fn lay_sizes(w: &mut [u16], dir: TransferDirection, n: usize, len: usize, chunk: usize, rest: usize)
     requires { (n ≤ limit) × (chunk + rest ≤ 4095) × (chunk ≡ len / n) × (rest ≡ len % n) }
     ensures { w.new ≡ up_to (lay_cells dir n len) n w.old }

@@ -173,11 +173,7 @@ fn link_one(w: &mut [u16], dir: TransferDirection, n: usize, i: usize)
 }
 
 // Links up all the records, but not in a circle.
-#[tactic(
-    auto,
-    using(crate::specs::laws::Updates::up_none, crate::specs::laws::Updates::up_more),
-    unfolding(crate::specs::Stores::link_all)
-)]
+#[tactic(auto, using(crate::specs::laws::Updates::up_none, crate::specs::laws::Updates::up_more), unfolding(crate::specs::Stores::link_all))]
 pub fn link_all(w: &mut [u16], dir: TransferDirection, n: usize)
     ensures { w.new ≡ link_all dir n w.old }
 {

@@ -40,14 +40,15 @@ returns c =
     let a = c.args in
     let s = split (goal.at.returns c).In_ok-judge_split in
     judged_false _ (elim c.else-lengths_ok.branch [
-      else-lengths_ok-via-then-lengths_ok+then-nexts_ok+then-i-n+else-offset_ok w ↦
-        sound-by a.dir a.s.now a.w.now a.h a.len s _ _ _ c.lengths_ok.ensures w.nexts_ok.ensures w.offset_ok.ensures
-        ∙ rw (w.if-lengths_ok.true, w.if-nexts_ok.true, lt-ltb _ _ w.if-i-n.true) w.if-offset_ok.false
-    | else-lengths_ok-via-then-lengths_ok+then-nexts_ok+else-i-n w ↦
-        sound-by a.dir a.s.now a.w.now a.h a.len s _ _ _ c.lengths_ok.ensures w.nexts_ok.ensures refl
-        ∙ rw (w.if-lengths_ok.true, w.if-nexts_ok.true, le-ltb _ _ w.if-i-n.false) refl
-    | else-lengths_ok-via-then-lengths_ok+else-nexts_ok w ↦
-        sound-by a.dir a.s.now a.w.now a.h a.len s _ _ _ c.lengths_ok.ensures w.nexts_ok.ensures refl
-        ∙ rw (w.if-lengths_ok.true, w.if-nexts_ok.false) refl
-    | else-lengths_ok-via-else-lengths_ok w ↦
-        sound-stops a.dir a.s.now a.w.now a.h a.len s _ c.lengths_ok.ensures w.if-lengths_ok.false ])
+      | else-lengths_ok-via-then-lengths_ok+then-nexts_ok+then-i-n+else-offset_ok w ↦
+          sound-by a.dir a.s.now a.w.now a.h a.len s _ _ _ c.lengths_ok.ensures w.nexts_ok.ensures w.offset_ok.ensures
+          ∙ rw (w.if-lengths_ok.true, w.if-nexts_ok.true, lt-ltb _ _ w.if-i-n.true) w.if-offset_ok.false
+      | else-lengths_ok-via-then-lengths_ok+then-nexts_ok+else-i-n w ↦
+          sound-by a.dir a.s.now a.w.now a.h a.len s _ _ _ c.lengths_ok.ensures w.nexts_ok.ensures refl
+          ∙ rw (w.if-lengths_ok.true, w.if-nexts_ok.true, le-ltb _ _ w.if-i-n.false) refl
+      | else-lengths_ok-via-then-lengths_ok+else-nexts_ok w ↦
+          sound-by a.dir a.s.now a.w.now a.h a.len s _ _ _ c.lengths_ok.ensures w.nexts_ok.ensures refl
+          ∙ rw (w.if-lengths_ok.true, w.if-nexts_ok.false) refl
+      | else-lengths_ok-via-else-lengths_ok w ↦
+          sound-stops a.dir a.s.now a.w.now a.h a.len s _ c.lengths_ok.ensures w.if-lengths_ok.false
+    ])

@@ -44,13 +44,14 @@ returns c =
     let a = c.args in
     let k = known (goal.at.returns c).In-Ok in
     judged_false _ (elim c.else-are_records.branch [
-      else-are_records-via-then-are_records+then-starts_ok+then-sizes_ok+else-h-len w ↦
-        split_by a.s.now a.w.now a.h a.len _ _ k (sym c.are_records.ensures ∙ w.if-are_records.true) _ _ w.starts_ok.ensures w.sizes_ok.ensures
-        ∙ rw (w.if-starts_ok.true, w.if-sizes_ok.true) (lt-leb _ _ w.if-h-len.false)
-    | else-are_records-via-then-are_records+then-starts_ok+else-sizes_ok w ↦
-        split_by a.s.now a.w.now a.h a.len _ _ k (sym c.are_records.ensures ∙ w.if-are_records.true) _ _ w.starts_ok.ensures w.sizes_ok.ensures
-        ∙ rw (w.if-starts_ok.true, w.if-sizes_ok.false) refl
-    | else-are_records-via-then-are_records+else-starts_ok w ↦
-        split-stops a.s.now a.w.now a.h a.len _ _ k (sym c.are_records.ensures ∙ w.if-are_records.true) _ w.starts_ok.ensures w.if-starts_ok.false
-    | else-are_records-via-else-are_records w ↦
-        split-no-records a.s.now a.w.now a.h a.len (sym c.are_records.ensures ∙ w.if-are_records.false) k.facts ])
+      | else-are_records-via-then-are_records+then-starts_ok+then-sizes_ok+else-h-len w ↦
+          split_by a.s.now a.w.now a.h a.len _ _ k (sym c.are_records.ensures ∙ w.if-are_records.true) _ _ w.starts_ok.ensures w.sizes_ok.ensures
+          ∙ rw (w.if-starts_ok.true, w.if-sizes_ok.true) (lt-leb _ _ w.if-h-len.false)
+      | else-are_records-via-then-are_records+then-starts_ok+else-sizes_ok w ↦
+          split_by a.s.now a.w.now a.h a.len _ _ k (sym c.are_records.ensures ∙ w.if-are_records.true) _ _ w.starts_ok.ensures w.sizes_ok.ensures
+          ∙ rw (w.if-starts_ok.true, w.if-sizes_ok.false) refl
+      | else-are_records-via-then-are_records+else-starts_ok w ↦
+          split-stops a.s.now a.w.now a.h a.len _ _ k (sym c.are_records.ensures ∙ w.if-are_records.true) _ w.starts_ok.ensures w.if-starts_ok.false
+      | else-are_records-via-else-are_records w ↦
+          split-no-records a.s.now a.w.now a.h a.len (sym c.are_records.ensures ∙ w.if-are_records.false) k.facts
+    ])

@@ -1,4 +1,0 @@
-use Rattle.by_value.proofs.value_tx_available.Goals as goal
-
-pub returns : goal.returns
-returns c = rw (c.counted.ensures, c.available_bytes.ensures, c.tx.ensures)
