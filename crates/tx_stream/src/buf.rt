@@ -48,7 +48,7 @@ impl DmaTxStreamBuf {
         Kept { ring, answer }
     }
 
-    // Gives the records back.
+    // Gives the records back. An array goes through a variable, here and below: tried straight in the literal, and the check does not take it.
     pub fn split(self) -> Words
         ensures { result ≡ record { starts = self.starts; cells = self.cells } }
     {

@@ -26,10 +26,10 @@ write_position-requires c = offset-fits _ _ (ready-split _ _ _ c.judge.ensures c
 pub copy_round-requires : goal.copy_round-requires
 copy_round-requires c =
     let a = c.args in
-    let sure = ready-split _ _ _ c.judge.ensures c.in_ok-judge.was in
-    let free = c.available.ensures ∙ room-is a.s.now a.w.now a.h.now (length a.buffer.now) sure in
-    let place = place-within a.s.now a.w.now a.h.now (length a.buffer.now) sure in
-    (omega (arith, c.write_position.ensures, place), omega (arith, c.min-k.ensures, free, room_fits _ _ sure), omega (arith, c.min-k.ensures))
+    let judged = ready-split _ _ _ c.judge.ensures c.in_ok-judge.was in
+    let free = c.available.ensures ∙ room-is a.s.now a.w.now a.h.now (length a.buffer.now) judged in
+    let place = place-within a.s.now a.w.now a.h.now (length a.buffer.now) judged in
+    (omega (arith, c.write_position.ensures, place), omega (arith, c.min-k.ensures, free, room_fits _ _ judged), omega (arith, c.min-k.ensures))
 
 pub returns : goal.returns
 returns c =
