@@ -7,4 +7,5 @@ pub mod Split
 pub mod Stores
 pub mod Ring
 pub mod Walk
+pub mod Moves
 pub mod laws

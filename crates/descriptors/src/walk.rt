@@ -4,8 +4,10 @@ ghost use Rattle.descriptors.specs.Record.{limit, span_of, following};
 ghost use Rattle.descriptors.specs.Cells.{record_at, put_next};
 ghost use Rattle.descriptors.specs.Stores.{hand_cells, link_cells, hand_all, link_all};
 ghost use Rattle.descriptors.specs.Walk.{run_bytes, walk_in};
+ghost use Rattle.descriptors.specs.Moves.{moved_in, head_moved, room_in};
 
 use crate::record::{LIMIT, Owner, TransferDirection};
+use crate::ring::Head;
 use crate::{cells, place};
 
 // Where a walk stands: the place, the bytes still to go and the records used up.
@@ -128,6 +130,30 @@ pub fn hand_over(w: &mut [u16], dir: TransferDirection, n: usize, i: usize, g: u
         hand_over_one(w, dir, n, at);
         at = place::after(n, at);
     }
+}
+
+// The bytes of the CPU-owned run from the cursor.
+pub fn available(w: &[u16], dir: TransferDirection, h: Head) -> usize
+    ensures { result ≡ room_in dir w.now h }
+{
+    run_bytes(w, dir, h.count, h.descriptor_idx).saturating_sub(h.descriptor_offset)
+}
+
+// Moves the cursor over k bytes, or over all there are: the records used up go to the device, and the tally counts the bytes.
+pub fn advance(w: &mut [u16], dir: TransferDirection, h: &mut Head, k: usize) -> Moved
+    ensures w_after { w.new ≡ hand_all dir h.old.count (moved_in dir w.old h.old k).back h.old.descriptor_idx w.old }
+    ensures h_after { h.new ≡ head_moved h.old k (moved_in dir w.old h.old k) }
+    ensures value { result ≡ moved_in dir w.old h.old k }
+{
+    let n = h.count;
+    let i = h.descriptor_idx;
+    let moved = walk_over(w, dir, n, i, h.descriptor_offset, k);
+    hand_over(w, dir, n, i, moved.back);
+    let bytes = k - moved.rest;
+    h.descriptor_idx = moved.at;
+    h.descriptor_offset = moved.offset;
+    h.tally = h.tally.wrapping_add((bytes % 4294967296) as u32);
+    moved
 }
 
 // Record i leads to the next one, the last to none.

@@ -1,14 +1,10 @@
 -- The two faces of a ring: words lent with a head, and all of it by value. What a call leaves in place is the outcome's ring, by
 -- head_of and cells_now, and what it answers is the outcome's answer; by value one struct holds both.
-use Rattle.std.specs.Prelude.{ℕ, ◌+◌, ◌-◌, ◌%◌, ◌^◌, List, []}
-use Rattle.descriptors.specs.Cells.{record_at, starts_now, cells_now}
-use Rattle.descriptors.specs.Ring.{Ring, Outcome, head_of}
-use Rattle.descriptors.specs.Walk.{walk_in}
-use Rattle.descriptors.specs.Refusal.{Answer}
-use Rattle.descriptors.specs.declared.record.TransferDirection.TheVariants.{In}
+use Rattle.std.specs.Prelude.{ℕ, ◌-◌, List}
+use Rattle.descriptors.specs.Cells.{starts_now, cells_now}
+use Rattle.descriptors.specs.Ring.{Ring, head_of}
 use Rattle.descriptors.specs.declared.cells.Words.{Words}
 use Rattle.descriptors.specs.declared.ring.Head.{Head}
-use Rattle.descriptors.specs.declared.ring.Kept.{Kept}
 use Rattle.descriptors.specs.declared.walk.Moved.{Moved}
 use Rattle.rx_stream.specs.declared.Took.{Took}
 use Rattle.rx_stream.specs.declared.buf.DmaRxStreamBuf.{DmaRxStreamBuf}
@@ -40,22 +36,7 @@ buf_of v = record { starts = v.starts; cells = v.cells; head = v.head }
 abbrev pub words_of : DmaRxStreamBuf → Words
 words_of b = record { starts = b.starts; cells = b.cells }
 
--- ---- the core of consume and pop, on any words: where k bytes lead from the cursor on, and what is then taken
-
-unfoldable pub step_in : List ℕ → Head → ℕ → Moved
-step_in ws h k =
-    walk_in In (record_at [] ws) h.count
-    (record { at = h.descriptor_idx; offset = h.descriptor_offset; rest = k; back = 0 })
-
-abbrev pub moved_by : Head → ℕ → Moved → Head
-moved_by h k m =
-    record {
-      count = h.count;
-      descriptor_idx = m.at;
-      descriptor_offset = m.offset;
-      tally = (h.tally + (k - m.rest)) % 2 ^ 32;
-      pre_filled = h.pre_filled;
-    }
+-- ---- what a walk from the cursor takes
 
 abbrev pub took_by : ℕ → Moved → Took
 took_by k m = record { taken = k - m.rest; back = m.back }

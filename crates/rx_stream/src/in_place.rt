@@ -6,7 +6,8 @@ ghost use Rattle.descriptors.specs.Stores.{hand_all};
 ghost use Rattle.descriptors.specs.Part.{part_from};
 ghost use Rattle.descriptors.specs.Ring.{ring_of, head_of};
 ghost use Rattle.rx_stream.specs.Receive.{prepare_of, available_of, peek_of, peek_place, peek_refusal_of, peek_eof_of, consume_of, pop_of, popped_over};
-ghost use Rattle.rx_stream.specs.Faces.{step_in, moved_by, took_by};
+ghost use Rattle.descriptors.specs.Moves.{moved_in, head_moved};
+ghost use Rattle.rx_stream.specs.Faces.{took_by};
 
 use crate::{Took, copy, piece};
 use descriptors::record::TransferDirection;
@@ -36,8 +37,7 @@ pub fn available_in<'a>(
     ensures { result ≡ available_of (ring_of s.now w.now h) len }
 {
     ring::judge(TransferDirection::In, s, w, h, len)?;
-    let total = walk::run_bytes(w, TransferDirection::In, h.count, h.descriptor_idx);
-    Ok(total - h.descriptor_offset)
+    Ok(walk::available(w, TransferDirection::In, h))
 }
 
 // ---- the part that can be read without a copy
@@ -103,20 +103,13 @@ pub fn peek_eof_in<'a>(s: &'a [u32], w: &'a [u16], h: Head, len: usize) -> Resul
 
 // Takes k bytes, or all there are, from the cursor on: the core of consume and pop, total on any words.
 fn take_in(w: &mut [u16], h: &mut Head, k: usize) -> Took
-    ensures w_after { w.new ≡ hand_all TransferDirection.In h.old.count (step_in w.old h.old k).back h.old.descriptor_idx w.old }
-    ensures h_after { h.new ≡ moved_by h.old k (step_in w.old h.old k) }
-    ensures value { result ≡ took_by k (step_in w.old h.old k) }
+    ensures w_after { w.new ≡ hand_all TransferDirection.In h.old.count (moved_in TransferDirection.In w.old h.old k).back h.old.descriptor_idx w.old }
+    ensures h_after { h.new ≡ head_moved h.old k (moved_in TransferDirection.In w.old h.old k) }
+    ensures value { result ≡ took_by k (moved_in TransferDirection.In w.old h.old k) }
 {
-    let n = h.count;
-    let i = h.descriptor_idx;
-    let m = walk::walk_over(w, TransferDirection::In, n, i, h.descriptor_offset, k);
-    walk::hand_over(w, TransferDirection::In, n, i, m.back);
-    let taken = k - m.rest;
-    h.descriptor_idx = m.at;
-    h.descriptor_offset = m.offset;
-    h.tally = h.tally.wrapping_add((taken % 4294967296) as u32);
+    let m = walk::advance(w, TransferDirection::In, h, k);
     Took {
-        taken,
+        taken: k - m.rest,
         back: m.back,
     }
 }

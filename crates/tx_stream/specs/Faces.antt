@@ -1,14 +1,13 @@
 -- Where the parts on offer begin, and what the parts of the calls do to the words and the head.
-use Rattle.std.specs.Prelude.{ℕ, ◌+◌, ◌-◌, ◌%◌, ◌^◌, true, cond, List, [], length, ◌==◌, nat_le, None}
-use Rattle.descriptors.specs.Record.{limit, up_to}
+use Rattle.std.specs.Prelude.{ℕ, ◌+◌, ◌%◌, ◌^◌, true, cond, List, [], length, ◌==◌, nat_le, None}
+use Rattle.descriptors.specs.Record.{up_to}
 use Rattle.descriptors.specs.Cells.{cell, record_at, put_length, put_eof, put_owner, put_next}
 use Rattle.descriptors.specs.Stores.{hand_all}
 use Rattle.descriptors.specs.Ring.{Ring, sound, split_sound}
-use Rattle.descriptors.specs.Walk.{run_bytes, walk_in}
+use Rattle.descriptors.specs.Moves.{moved_in, head_moved}
 use Rattle.descriptors.specs.declared.record.Owner.TheVariants.{Cpu}
 use Rattle.descriptors.specs.declared.record.TransferDirection.TheVariants.{Out}
 use Rattle.descriptors.specs.declared.ring.Head.{Head}
-use Rattle.descriptors.specs.declared.walk.Moved.{Moved}
 use Rattle.tx_stream.specs.Transmit.{Reached, reached, write_at}
 use Rattle.tx_stream.specs.declared.prepare.Cursor.{Cursor}
 
@@ -22,27 +21,11 @@ offer_place r bytes = cond (sound Out r (length bytes)) (write_at r) 0
 
 -- ---- bytes accepted
 
--- the free bytes from the cursor on
-unfoldable pub room_of : List ℕ → Head → ℕ
-room_of ws h = cond (nat_le h.count limit) (run_bytes Out (record_at [] ws) h.count h.count h.descriptor_idx) 0 - h.descriptor_offset
-
--- where k bytes lead from the cursor
-abbrev pub walked : List ℕ → Head → ℕ → Moved
-walked ws h k =
-    walk_in Out (record_at [] ws) h.count (record { at = h.descriptor_idx; offset = h.descriptor_offset; rest = k; back = 0 })
-
 unfoldable pub filled_cells : List ℕ → Head → ℕ → List ℕ
-filled_cells ws h k = hand_all Out h.count (walked ws h k).back h.descriptor_idx ws
+filled_cells ws h k = hand_all Out h.count (moved_in Out ws h k).back h.descriptor_idx ws
 
 unfoldable pub filled_head : List ℕ → Head → ℕ → Head
-filled_head ws h k =
-    record {
-      count = h.count;
-      descriptor_idx = (walked ws h k).at;
-      descriptor_offset = (walked ws h k).offset;
-      tally = (h.tally + (k - (walked ws h k).rest)) % 2 ^ 32;
-      pre_filled = h.pre_filled;
-    }
+filled_head ws h k = head_moved h k (moved_in Out ws h k)
 
 -- ---- bytes prefilled
 

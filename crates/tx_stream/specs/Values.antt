@@ -1,9 +1,7 @@
 -- The rings by value: the ring that the words and the head are, and the value that an outcome is.
 use Rattle.std.specs.Prelude.{ℕ, List}
 use Rattle.descriptors.specs.Cells.{starts_now, cells_now}
-use Rattle.descriptors.specs.Ring.{Ring, Outcome, ring_of, head_of}
-use Rattle.descriptors.specs.Refusal.{Answer}
-use Rattle.descriptors.specs.declared.ring.Kept.{Kept}
+use Rattle.descriptors.specs.Ring.{Ring, ring_of, head_of}
 use Rattle.tx_stream.specs.declared.buf.DmaTxStreamBuf.{DmaTxStreamBuf}
 use Rattle.tx_stream.specs.declared.view.DmaTxStreamBufView.{DmaTxStreamBufView}
 

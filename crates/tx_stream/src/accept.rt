@@ -10,17 +10,7 @@ use descriptors::walk;
 pub(crate) fn accept_in(w: &mut [u16], h: &mut Head, k: usize)
     ensures { (w.new ≡ filled_cells w.old h.old k) × (h.new ≡ filled_head w.old h.old k) }
 {
-    let n = h.count;
-    let i = h.descriptor_idx;
-    let m = walk::walk_over(w, TransferDirection::Out, n, i, h.descriptor_offset, k);
-    walk::hand_over(w, TransferDirection::Out, n, i, m.back);
-    let accepted = k - m.rest;
-    *h = Head {
-        descriptor_idx: m.at,
-        descriptor_offset: m.offset,
-        tally: h.tally.wrapping_add((accepted % 4294967296) as u32),
-        ..*h
-    };
+    walk::advance(w, TransferDirection::Out, h, k);
 }
 
 // More than the bound is refused, not cut.

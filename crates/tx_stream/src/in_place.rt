@@ -9,8 +9,8 @@ ghost use Rattle.tx_stream.specs.Faces.{offer_place};
 use crate::{accept, copy, room};
 use descriptors::record::TransferDirection;
 use descriptors::refusal::DmaBufError;
-use descriptors::ring;
 use descriptors::ring::Head;
+use descriptors::{ring, walk};
 
 pub fn available_in<'a>(
     s: &'a [u32],
@@ -21,7 +21,7 @@ pub fn available_in<'a>(
     ensures { result ≡ available_of (ring_of s.now w.now h) len }
 {
     ring::judge(TransferDirection::Out, s, w, h, len)?;
-    Ok(room::available(w, h))
+    Ok(walk::available(w, TransferDirection::Out, h))
 }
 
 pub fn push_in(
@@ -37,7 +37,9 @@ pub fn push_in(
     ensures buffer_after { buffer.new ≡ push_into (ring_of s.now w.old h.old) buffer.old «data».now }
 {
     ring::judge(TransferDirection::Out, s, w, *h, buffer.len())?;
-    let k = data.len().min(room::available(w, *h));
+    let k = data
+        .len()
+        .min(walk::available(w, TransferDirection::Out, *h));
     copy::copy_round(buffer, room::write_position(s, *h), data, k);
     accept::accept_in(w, h, k);
     Ok(k)
@@ -99,6 +101,6 @@ pub fn advance_in(
     ensures value { result ≡ (advance_of (ring_of s.now w.old h.old) len k).answer }
 {
     ring::judge(TransferDirection::Out, s, w, *h, len)?;
-    let bound = room::available(w, *h);
+    let bound = walk::available(w, TransferDirection::Out, *h);
     accept::accept_up_to(w, h, k, bound)
 }

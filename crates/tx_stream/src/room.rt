@@ -1,19 +1,11 @@
 // What is free from the cursor on, and where it lies.
 ghost use Rattle.std.specs.Prelude.{◌≡◌, ◌+◌, ◌-◌, ◌<◌, ◌≤◌, min};
 ghost use Rattle.descriptors.specs.Cells.{start_at};
-ghost use Rattle.tx_stream.specs.Faces.{room_of};
+ghost use Rattle.descriptors.specs.Moves.{room_in};
 
 use descriptors::record::TransferDirection;
 use descriptors::ring::Head;
 use descriptors::{cells, walk};
-
-// The bytes of the CPU-owned run from the cursor.
-pub(crate) fn available(w: &[u16], h: Head) -> usize
-    ensures { result ≡ room_of w.now h }
-{
-    let total = walk::run_bytes(w, TransferDirection::Out, h.count, h.descriptor_idx);
-    total.saturating_sub(h.descriptor_offset)
-}
 
 // Where the next byte goes.
 pub(crate) fn write_position(s: &[u32], h: Head) -> usize
@@ -26,7 +18,7 @@ pub(crate) fn write_position(s: &[u32], h: Head) -> usize
 // How much of it lies in one piece, before the buffer's end.
 pub(crate) fn offered<'a>(w: &'a [u16], h: Head, at: usize, len: usize) -> usize
     requires { at ≤ len }
-    ensures { result ≡ min (room_of w.now h) (len - at) }
+    ensures { result ≡ min (room_in TransferDirection.Out w.now h) (len - at) }
 {
-    available(w, h).min(len - at)
+    walk::available(w, TransferDirection::Out, h).min(len - at)
 }

@@ -1,6 +1,6 @@
 -- The steps of the run, of the walk and of the records handed over, which the loops of the code go by; and what they read of a ring:
 -- owners and spans.
-use Rattle.std.specs.Prelude.{◌≡◌, ℕ, zero, suc, ◌+◌, ◌-◌, ◌<◌, ◌≤◌, Bool, true, false, cond, List, [], nat_le, nat_lt}
+use Rattle.std.specs.Prelude.{◌≡◌, ℕ, zero, suc, ◌+◌, ◌-◌, ◌<◌, ◌%◌, ◌^◌, ◌≤◌, Bool, true, false, cond, List, [], nat_le, nat_lt}
 use Rattle.std.proofs.Math.Path.{refl}
 use Rattle.std.proofs.Common.{sym, ap}
 use native.Mathlib.Omega.{arith}
@@ -9,12 +9,14 @@ use Rattle.descriptors.specs.Record.{limit, record_in, is_cpu, span_of}
 use Rattle.descriptors.specs.Place.{after, turns}
 use Rattle.descriptors.specs.Cells.{are_records, records_of, record_at}
 use Rattle.descriptors.specs.Walk.{run_bytes, walk, walk_in, past, inside, begun, planned}
+use Rattle.descriptors.specs.Moves.{moved_in}
 use Rattle.descriptors.specs.Ring.{Ring}
 use Rattle.descriptors.specs.laws.Lifts.{record_is}
 use Rattle.descriptors.specs.declared.record.Owner.{Owner}
 use Rattle.descriptors.specs.declared.record.DmaDescriptor.{DmaDescriptor}
 use Rattle.descriptors.specs.declared.record.TransferDirection.{TransferDirection}
 use Rattle.descriptors.specs.declared.record.TransferDirection.TheVariants.{In, Out}
+use Rattle.descriptors.specs.declared.ring.Head.{Head}
 use Rattle.descriptors.specs.declared.walk.Moved.{Moved}
 
 module _ (dir : TransferDirection) (f : ℕ → DmaDescriptor) (n : ℕ) where
@@ -162,3 +164,12 @@ cells-alike dir st ws a =
 pub planned-few : (dir : TransferDirection) (r : Ring) (k : ℕ) → r.count ≤ limit → (planned dir r k).back ≤ limit
 unfolding planned
 planned-few dir r k h = omega (arith, walk-back dir (record_in r.descriptors) r.count r.count (begun r k))
+
+-- the tally's last 32 bits are counted, and no others
+pub tally-wraps : (a b : ℕ) → (a + b % 4294967296) % 2 ^ 32 ≡ (a + b) % 2 ^ 32
+tally-wraps a b = omega arith
+
+-- what is left to move over is no more than there was
+pub moved-rest : (dir : TransferDirection) (ws : List ℕ) (h : Head) (k : ℕ) → (moved_in dir ws h k).rest ≤ k
+unfolding moved_in
+moved-rest dir ws h k = walk-in-rest dir (record_at [] ws) h.count (record { at = h.descriptor_idx; offset = h.descriptor_offset; rest = k; back = 0 })

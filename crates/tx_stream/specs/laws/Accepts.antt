@@ -20,7 +20,8 @@ use Rattle.descriptors.specs.declared.walk.Moved.{Moved}
 use Rattle.descriptors.specs.Refusal.{Answer}
 use Rattle.tx_stream.specs.Transmit.{accepted_up_to, write_at, offered}
 use Rattle.tx_stream.specs.laws.Room.{place_in}
-use Rattle.tx_stream.specs.Faces.{room_of, walked, filled_cells, filled_head}
+use Rattle.descriptors.specs.Moves.{moved_in, room_in}
+use Rattle.tx_stream.specs.Faces.{filled_cells, filled_head}
 
 module _ (st ws : List ℕ) (h : Head) (len : ℕ) (s : sound Out (ring_of st ws h) len ≡ true) where
   pub held : are_records st ws ≡ true
@@ -29,8 +30,8 @@ module _ (st ws : List ℕ) (h : Head) (len : ℕ) (s : sound Out (ring_of st ws
   many : h.count ≤ limit
   many = (facts Out (ring_of st ws h) len s).split.parts.many
 
-  pub room-is : room_of ws h ≡ available_in Out (ring_of st ws h)
-  unfolding room_of available_in
+  pub room-is : room_in Out ws h ≡ available_in Out (ring_of st ws h)
+  unfolding room_in available_in
   room-is =
       rw (le-leb h.count limit many)
       (ap (λ (k : ℕ). k - h.descriptor_offset)
@@ -43,11 +44,11 @@ module _ (st ws : List ℕ) (h : Head) (len : ℕ) (s : sound Out (ring_of st ws
   place-within = omega (arith, place_is, place_in (ring_of st ws h) len s)
 
   -- the part on offer from the place where the next byte goes
-  pub part-is : (p : ℕ) → p ≡ start_at st h.descriptor_idx + h.descriptor_offset → min (room_of ws h) (len - p) ≡ offered (ring_of st ws h) len
+  pub part-is : (p : ℕ) → p ≡ start_at st h.descriptor_idx + h.descriptor_offset → min (room_in Out ws h) (len - p) ≡ offered (ring_of st ws h) len
   part-is p e = rw (e, place_is, room-is) refl
 
-  walked-is : (k : ℕ) → walked ws h k ≡ planned Out (ring_of st ws h) k
-  unfolding planned
+  walked-is : (k : ℕ) → moved_in Out ws h k ≡ planned Out (ring_of st ws h) k
+  unfolding moved_in planned
   walked-is k = walk-in Out (record_at [] ws) h.count _ many ∙ walk-alike Out (record_at [] ws) (record_in (records_of st ws)) h.count (cells-alike Out st ws held) h.count _
 
   pub filled-head : (k : ℕ) → filled_head ws h k ≡ head_of (advanced Out (ring_of st ws h) k)
@@ -67,9 +68,9 @@ module _ (st ws : List ℕ) (h : Head) (len : ℕ) (s : sound Out (ring_of st ws
   unfolding filled_cells moved_to
   filled-cells k =
       let i : ℕ = h.descriptor_idx in
-      let b = run-lifts Out st h.count (walked ws h k).back i many (facts Out (ring_of st ws h) len s).within ws held in
-      let few : (walked ws h k).back ≤ limit = omega (arith, ap (λ (m : Moved). m.back) (walked-is k), planned-few Out (ring_of st ws h) k many) in
-      hand_in Out h.count (walked ws h k).back i ws few
+      let b = run-lifts Out st h.count (moved_in Out ws h k).back i many (facts Out (ring_of st ws h) len s).within ws held in
+      let few : (moved_in Out ws h k).back ≤ limit = omega (arith, ap (λ (m : Moved). m.back) (walked-is k), planned-few Out (ring_of st ws h) k many) in
+      hand_in Out h.count (moved_in Out ws h k).back i ws few
       ∙ cells_are st ws _ _ held b.0
       (b.1 ∙ ap (λ (m : Moved). turns (hand_over Out h.count) h.count m.back i (records_of st ws)) (walked-is k))
 

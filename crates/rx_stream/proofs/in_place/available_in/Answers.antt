@@ -1,11 +1,9 @@
 use Rattle.std.proofs.lemmas.Result.{err_from_is_err_and}
 use Rattle.rx_stream.specs.laws.Answers.{available-refused, available-done}
-use Rattle.rx_stream.specs.laws.Takes.{unsound, offset-run, run-read}
+use Rattle.rx_stream.specs.laws.Takes.{unsound, room-known}
 use Rattle.descriptors.specs.laws.Sound.{ready-split}
-use Rattle.descriptors.specs.Walk.{available_in}
-use Rattle.descriptors.specs.Ring.{ring_of, sound}
-use Rattle.descriptors.specs.declared.record.TransferDirection.TheVariants.{In}
-use Rattle.std.proofs.Common.{◌≡◌, true, ℕ, ◌-◌, sym, ap, ◌∙◌, arith, Ok}
+use Rattle.descriptors.specs.Ring.{ring_of}
+use Rattle.std.proofs.Common.{ℕ, sym, ap, ◌∙◌, Ok}
 use Rattle.rx_stream.proofs.in_place.available_in.Goals as goal
 
 pub returns-in_err-judge : goal.returns-in_err-judge
@@ -15,16 +13,9 @@ returns-in_err-judge c =
     let u = unsound _ c.judge.ensures c.in_err-judge.was in
     rw (p.1, p.2, u.1) (sym (available-refused (ring_of a.s.now a.w.now a.h) a.len u.0))
 
-pub overflow_sub-result : goal.overflow_sub-result
-overflow_sub-result c =
-    let a = c.args in
-    let passed : sound In (ring_of a.s.now a.w.now a.h) a.len ≡ true = ready-split _ _ _ c.judge.ensures c.in_ok-judge.was in
-    omega (arith, run-read a.s.now a.w.now a.h a.len passed c.run_bytes-total.ensures, offset-run a.s.now a.w.now a.h a.len passed)
-
 pub returns : goal.returns
-unfolding available_in
 returns c =
     let a = c.args in
     let passed = ready-split _ _ _ c.judge.ensures c.in_ok-judge.was in
-    ap (λ (k : ℕ). Ok (k - a.h.descriptor_offset)) (run-read a.s.now a.w.now a.h a.len passed c.run_bytes-total.ensures)
+    ap (λ (k : ℕ). Ok k) (c.available.ensures ∙ room-known a.s.now a.w.now a.h a.len passed)
     ∙ sym (available-done (ring_of a.s.now a.w.now a.h) a.len passed)
