@@ -37,9 +37,8 @@ pub fn push_in(
     ensures buffer_after { buffer.new ≡ push_into (ring_of s.now w.old h.old) buffer.old «data».now }
 {
     ring::judge(TransferDirection::Out, s, w, *h, buffer.len())?;
-    let k = data
-        .len()
-        .min(walk::available(w, TransferDirection::Out, *h));
+    let free = walk::available(w, TransferDirection::Out, *h);
+    let k = data.len().min(free);
     copy::copy_round(buffer, room::write_position(s, *h), data, k);
     accept::accept_in(w, h, k);
     Ok(k)

@@ -27,7 +27,7 @@ pub copy_round-requires : goal.copy_round-requires
 copy_round-requires c =
     let a = c.args in
     let judged = ready-split _ _ _ c.judge.ensures c.in_ok-judge.was in
-    let free = c.available.ensures ∙ room-is a.s.now a.w.now a.h.now (length a.buffer.now) judged in
+    let free = c.available-free.ensures ∙ room-is a.s.now a.w.now a.h.now (length a.buffer.now) judged in
     let place = place-within a.s.now a.w.now a.h.now (length a.buffer.now) judged in
     (omega (arith, c.write_position.ensures, place), omega (arith, c.min-k.ensures, free, room_fits _ _ judged), omega (arith, c.min-k.ensures))
 
@@ -38,7 +38,7 @@ returns c =
     let bytes : List ℕ = a.«data».now in
     let ring : Ring = ring_of a.s.now a.w.now a.h.now in
     let sure = ready-split _ _ _ c.judge.ensures c.in_ok-judge.was in
-    let taken : c.min-k.result ≡ min (length bytes) (available_in Out ring) = c.min-k.ensures ∙ ap (min (length bytes)) (c.available.ensures ∙ room-is a.s.now a.w.now a.h.now size sure) in
+    let taken : c.min-k.result ≡ min (length bytes) (available_in Out ring) = c.min-k.ensures ∙ ap (min (length bytes)) (c.available-free.ensures ∙ room-is a.s.now a.w.now a.h.now size sure) in
     let place : c.write_position.result ≡ write_at ring = c.write_position.ensures ∙ place_is a.s.now a.w.now a.h.now size sure in
     let k : ℕ = min (length bytes) (available_in Out ring) in
     rw (push-yes ring size sure (length bytes)) record {
