@@ -110,9 +110,8 @@ impl From<DmaTxStreamBufView> for Ring {
 pub extern "C" fn value_rx_available(ring: Ring, len: usize) -> usize
     ensures { result ≡ bytes_of (receive.available_of (given ring) len) }
 {
-    DmaRxStreamBufView::from(ring)
-        .available_bytes(len)
-        .unwrap_or(0)
+    let available = DmaRxStreamBufView::from(ring).available_bytes(len);
+    available.unwrap_or(0)
 }
 
 #[unsafe(no_mangle)]
@@ -149,9 +148,8 @@ pub extern "C" fn value_rx_pop(ring: Ring, buffer: &[u8], destination: &mut [u8]
 pub extern "C" fn value_tx_available(ring: Ring, len: usize) -> usize
     ensures { result ≡ bytes_of (transmit.available_of (given ring) len) }
 {
-    DmaTxStreamBufView::from(ring)
-        .available_bytes(len)
-        .unwrap_or(0)
+    let free = DmaTxStreamBufView::from(ring).available_bytes(len);
+    free.unwrap_or(0)
 }
 
 #[unsafe(no_mangle)]

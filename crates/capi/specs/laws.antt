@@ -2,4 +2,3 @@
 pub mod Words
 pub mod Lent
 pub mod Calls
-pub mod Peeks

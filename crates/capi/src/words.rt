@@ -33,7 +33,7 @@ pub(crate) fn head_of(head: &[u64], ready: bool) -> Head
     }
 }
 
-// The five stores.
+// The five stores. u64 and usize have no From between them.
 #[tactic(auto, unfolding(crate::specs::Words::head_made))]
 pub(crate) fn put(head: &mut [u64], h: Head)
     ensures { head.new ≡ head_made head.old h }

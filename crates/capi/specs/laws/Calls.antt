@@ -1,6 +1,5 @@
 -- What the calls without a loop of their own answer, case by case.
 use Rattle.std.specs.Prelude.{ℕ, ◌+◌, ◌-◌, ◌≤◌, min, Bool, List, length, Ok, Err}
-use Rattle.std.specs.Result.{result_and}
 use Rattle.std.proofs.Math.Path.{◌≡◌, refl, ap}
 use Rattle.std.proofs.Common.{◌∙◌, arith, ne_eqb, ltb-false}
 use Rattle.std.proofs.Math.Bool.{true, false, cond}
@@ -24,7 +23,7 @@ use Rattle.psram.specs.declared.chip.Chip.{Chip}
 use Rattle.psram.specs.declared.plan.Plan.{Plan}
 use Rattle.psram.specs.declared.plan.Cut.{Cut}
 use Rattle.capi.specs.Words.{head_made}
-use Rattle.capi.specs.Answer.{said_number, said_in, said_by, words_alone, counted_said, done_said}
+use Rattle.capi.specs.Answer.{said_number, said_in}
 use Rattle.capi.specs.New.{head_if}
 use Rattle.capi.specs.Parts.{peek_said, until_eof_said, offer_said, prefill_offer_said}
 use Rattle.capi.specs.Pieces.{ready_said}
@@ -118,16 +117,6 @@ module _ (chip : Chip) (address len : ℕ) where
 
   pub cut-whole : ltb top (address + len) ≡ false → bytes_of plan ≤ top
   cut-whole e = omega (arith, (parted (least_of chip) (bounce_of chip) address len (sides chip)).whole, ltb-false top (address + len) e)
-
--- ---- what is said
-
-pub said-alone : (a : Answer Said) → said_by words_alone a ≡ a
-said-alone (Ok x) = refl
-said-alone (Err e) = refl
-
-pub done-counted : (k : ℕ) (d : Answer Unit) → counted_said (result_and d (Ok k)) ≡ done_said k d
-done-counted k (Ok tt) = refl
-done-counted k (Err e) = refl
 
 -- ---- a call that is refused first of all, or goes on
 

@@ -1,8 +1,8 @@
 use Rattle.std.proofs.lemmas.Result.{err_from_is_err_and}
 use Rattle.capi.specs.Parts.{peek_said}
-use Rattle.capi.specs.laws.Peeks.{peek-shown}
 use Rattle.descriptors.specs.laws.Sound.{ready-split}
 use Rattle.rx_stream.specs.laws.Takes.{unsound}
+use Rattle.rx_stream.specs.laws.Parts.{part-read}
 use Rattle.std.proofs.Common.{arith}
 use Rattle.capi.proofs.flat.peeked.Goals as goal
 
@@ -16,16 +16,19 @@ returns-in_err-judge c =
 pub overflow_add-result : goal.overflow_add-result
 overflow_add-result c =
     let a = c.args in
-    let p = peek-shown a.s.now a.w.now a.h a.len (ready-split _ _ _ c.judge.ensures c.in_ok-judge.was) a.until_eof _ _ c.start_of-start.ensures c.flat_bytes-bytes.ensures in
+    let p = part-read a.s.now a.w.now a.h a.len (ready-split _ _ _ c.judge.ensures c.in_ok-judge.was) a.until_eof c.start_of-start.ensures c.flat_bytes-bytes.ensures in
     record { fits = omega (arith, p.forward, p.inside) }
 
 pub overflow_sub-result : goal.overflow_sub-result
 overflow_sub-result c =
     let a = c.args in
-    let p = peek-shown a.s.now a.w.now a.h a.len (ready-split _ _ _ c.judge.ensures c.in_ok-judge.was) a.until_eof _ _ c.start_of-start.ensures c.flat_bytes-bytes.ensures in
+    let p = part-read a.s.now a.w.now a.h a.len (ready-split _ _ _ c.judge.ensures c.in_ok-judge.was) a.until_eof c.start_of-start.ensures c.flat_bytes-bytes.ensures in
     omega (arith, p.forward)
 
 pub returns : goal.returns
+unfolding peek_said
 returns c =
     let a = c.args in
-    (peek-shown a.s.now a.w.now a.h a.len (ready-split _ _ _ c.judge.ensures c.in_ok-judge.was) a.until_eof _ _ c.start_of-start.ensures c.flat_bytes-bytes.ensures).words
+    let passed = ready-split _ _ _ c.judge.ensures c.in_ok-judge.was in
+    let p = part-read a.s.now a.w.now a.h a.len passed a.until_eof c.start_of-start.ensures c.flat_bytes-bytes.ensures in
+    rw passed (simp (p.starts, p.flats))

@@ -1,7 +1,7 @@
 use Rattle.std.proofs.lemmas.Result.{err_from_is_err_and}
 use Rattle.capi.specs.laws.Calls.{until-no, until-yes}
 use Rattle.descriptors.specs.Ring.{ring_of}
-use Rattle.capi.specs.laws.Peeks.{eof-shown}
+use Rattle.rx_stream.specs.laws.Parts.{eof-read}
 use Rattle.descriptors.specs.Cells.{eof_cell}
 use mir.Val.{bool_byte}
 use Rattle.std.proofs.Common.{◌≡◌, Bool, true, false, refl, sym, ap, ◌∙◌}
@@ -22,4 +22,4 @@ pub returns : goal.returns
 returns c =
     let a = c.args in
     let y = until-yes (ring_of a.s.now a.w.now a.h) a.len _ (sym c.peeked.ensures ∙ c.in_ok-said.was) in
-    y.words _ (c.from.ensures ∙ byte-cell _ ∙ ap eof_cell (eof-shown a.s.now a.w.now a.h a.len y.sound _ c.flat_eof-eof.ensures))
+    y.words _ (c.from.ensures ∙ byte-cell _ ∙ ap eof_cell (eof-read a.s.now a.w.now a.h a.len y.sound c.flat_eof-eof.ensures))
