@@ -1,5 +1,6 @@
 // A ring without its records, and what is sound. Each scan has one test and one flag, and no way out before the end: so it is done
-// on many records at a time.
+// on many records at a time. Starts, cells and head are lent apart, here and in place: C lends them so, and a clause over a struct that
+// holds them would name each twice (`self.exit.cells.now`).
 ghost use Rattle.std.specs.Prelude.{◌≡◌, ◌+◌, ◌-◌, ◌*◌, ◌/◌, ◌%◌, ◌<◌, ◌≤◌, true, ◌&&◌, ◌||◌, [], length, if◌then◌else◌, ◌==◌, nat_eq, nat_le, nat_lt, slice_index};
 ghost use Rattle.descriptors.specs.Record.{limit, up_to};
 ghost use Rattle.descriptors.specs.Cells.{cells, record_at, all_below, are_records};
@@ -22,13 +23,13 @@ pub struct Head {
 }
 
 // What a call by value answers, and the ring that it leaves.
-#[derive(Clone, Copy, Debug)]
+#[derive(Clone, Copy, Debug, PartialEq, Eq)]
 pub struct Kept<R, A> {
     pub ring: R,
     pub answer: Result<A, DmaBufError>,
 }
 
-// ---- the scans
+// ---- the scans: each asks by itself that the words are whole, since they stay slices, as C lends them
 
 fn marks_ok(w: &[u16]) -> bool
     requires { length w.now ≡ cells }

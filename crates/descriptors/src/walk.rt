@@ -108,6 +108,7 @@ fn enqueue(w: &mut [u16], n: usize, d: usize)
     cells::link_to(w, previous, d);
 }
 
+// Alike with link_one, but each calls two transitions of its own; a closure would hide which.
 fn hand_over_one(w: &mut [u16], dir: TransferDirection, n: usize, i: usize)
     ensures { w.new ≡ hand_cells dir n i w.old }
 {

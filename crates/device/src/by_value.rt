@@ -27,19 +27,20 @@ pub fn receive_step(
     ensures value { result ≡ received_of ring (receive_of (ring_of ring.starts ring.cells ring.head) device (length buffer.old) (length incoming.now) eof) }
     ensures buffer_after { buffer.new ≡ receive_into (ring_of ring.starts ring.cells ring.head) device buffer.old incoming.now }
 {
-    let mut cells = ring.cells;
+    let mut ring = ring;
     let mut device = device;
+    let lent = &mut ring;
     let answer = receive::receive_step_in(
-        &ring.starts,
-        &mut cells,
-        ring.head,
+        &lent.starts,
+        &mut lent.cells,
+        lent.head,
         &mut device,
         buffer,
         incoming,
         eof,
     );
     Step {
-        ring: DmaRxStreamBufView { cells, ..ring },
+        ring,
         device,
         answer,
     }
@@ -54,18 +55,19 @@ pub fn transmit_step(
     ensures value { result ≡ sent_of ring (transmit_of (ring_of ring.starts ring.cells ring.head) device (length buffer.now) (length out.old)) }
     ensures out_after { out.new ≡ transmit_over (ring_of ring.starts ring.cells ring.head) device buffer.now out.old }
 {
-    let mut cells = ring.cells;
+    let mut ring = ring;
     let mut device = device;
+    let lent = &mut ring;
     let answer = transmit::transmit_step_in(
-        &ring.starts,
-        &mut cells,
-        ring.head,
+        &lent.starts,
+        &mut lent.cells,
+        lent.head,
         &mut device,
         buffer,
         out,
     );
     Step {
-        ring: DmaTxStreamBufView { cells, ..ring },
+        ring,
         device,
         answer,
     }

@@ -8,12 +8,6 @@ use descriptors::refusal::DmaBufError;
 use descriptors::ring;
 use descriptors::ring::Head;
 
-#[derive(Clone, Copy)]
-pub enum Stand {
-    On(usize),
-    Refused(DmaBufError),
-}
-
 // "starting at record 0"
 pub fn start() -> Option<u16>
     ensures { result ≡ Some 0 }

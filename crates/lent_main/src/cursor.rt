@@ -43,13 +43,6 @@ fn unsound(mut ring: DmaRxStreamBufView) -> DmaRxStreamBufView {
     ring
 }
 
-fn same_consumed(a: Kept<DmaRxStreamBufView, Took>, b: Kept<DmaRxStreamBufView, Took>) -> bool {
-    a.ring.starts == b.ring.starts
-        && a.ring.cells == b.ring.cells
-        && a.ring.head == b.ring.head
-        && a.answer == b.answer
-}
-
 // What the lent form has to answer and leave: what the by-value one does, but after a refusal the ring that it was given.
 fn wanted(
     value: Kept<DmaRxStreamBufView, Took>,

@@ -83,6 +83,7 @@ pub fn build_descriptor_list(
 ) -> Kept<DescriptorSet, Listed>
     ensures { result ≡ built_of d address length chip store }
 {
+    // an array is lent from a variable: the borrow checker does not cover fields of one struct lent at once
     let mut starts = d.starts;
     let mut cells = d.cells;
     let n = d.count;

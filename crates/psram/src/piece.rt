@@ -17,6 +17,7 @@ fn some(size: usize) -> usize
     usize::from(size != 0)
 }
 
+// That a plan is no longer than memory stands in three contracts: in the type, every definition that makes a plan would have to show it.
 fn directs(middle: usize) -> usize
     requires { middle ≤ top }
     ensures { result ≡ directs middle }
@@ -70,7 +71,8 @@ pub(crate) fn piece_at(p: Plan, i: usize) -> Result<Held, DmaBufError>
     Err(DmaBufError::TooMuch)
 }
 
-// What a list of pieces is refused for; `held` says whether the lent words hold records.
+// What a list of pieces is refused for; `held` says whether the lent words hold records. The parameters that follow are those of the
+// public calls, which README names.
 #[tactic(auto, unfolding(crate::specs::Piece::ready_of))]
 pub(crate) fn ready(
     held: bool,

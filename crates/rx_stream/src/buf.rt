@@ -12,7 +12,8 @@ use descriptors::record::{LIMIT, TransferDirection};
 use descriptors::ring;
 use descriptors::ring::{Head, Kept};
 
-#[derive(Clone, Copy, Debug)]
+// Four types of one shape, two in each direction: the names and the states are the Rust's.
+#[derive(Clone, Copy, Debug, PartialEq, Eq)]
 pub struct DmaRxStreamBuf {
     pub starts: [u32; LIMIT],
     pub cells: [u16; CELLS],

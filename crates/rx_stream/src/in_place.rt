@@ -79,7 +79,7 @@ pub fn peek_until_eof_in<'a, 'b>(s: &'b [u32], w: &'b [u16], h: Head, buffer: &'
     part_in(s, w, h, true, buffer)
 }
 
-// Why a peek of these words is empty, if it was refused.
+// Why a peek of these words is empty, if it was refused: as on transmit but for the direction, which the caller's name has.
 pub fn peek_refusal_in<'a>(
     s: &'a [u32],
     w: &'a [u16],

@@ -11,13 +11,15 @@ use descriptors::record::LIMIT;
 use descriptors::refusal::DmaBufError;
 use descriptors::ring::{Head, Kept};
 
-#[derive(Clone, Copy, Debug)]
+// Four types of one shape, two in each direction: the names and the states are the Rust's.
+#[derive(Clone, Copy, Debug, PartialEq, Eq)]
 pub struct DmaRxStreamBufView {
     pub starts: [u32; LIMIT],
     pub cells: [u16; CELLS],
     pub head: Head,
 }
 
+// The bodies are alike, but each call is the one in place of its own name.
 impl DmaRxStreamBufView {
     // The number of bytes that are available to read from a buffer of len bytes.
     pub fn available_bytes(self, len: usize) -> Result<usize, DmaBufError>

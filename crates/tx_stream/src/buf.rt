@@ -15,7 +15,8 @@ use descriptors::refusal::DmaBufError;
 use descriptors::ring;
 use descriptors::ring::{Head, Kept};
 
-#[derive(Clone, Copy, Debug)]
+// Four types of one shape, two in each direction: the names and the states are the Rust's.
+#[derive(Clone, Copy, Debug, PartialEq, Eq)]
 pub struct DmaTxStreamBuf {
     pub starts: [u32; LIMIT],
     pub cells: [u16; CELLS],

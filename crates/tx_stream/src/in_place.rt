@@ -58,6 +58,7 @@ pub fn offer_in<'a, 'b>(s: &'b [u32], w: &'b [u16], h: Head, buffer: &'a mut [u8
     &mut buffer[at..end]
 }
 
+// As on receive but for the direction, which the caller's name has.
 pub fn offer_refusal_in<'a>(
     s: &'a [u32],
     w: &'a [u16],

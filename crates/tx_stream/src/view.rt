@@ -13,13 +13,15 @@ use descriptors::refusal::DmaBufError;
 use descriptors::ring::{Head, Kept};
 
 // A view into a DmaTxStreamBuf.
-#[derive(Clone, Copy, Debug)]
+// Four types of one shape, two in each direction: the names and the states are the Rust's.
+#[derive(Clone, Copy, Debug, PartialEq, Eq)]
 pub struct DmaTxStreamBufView {
     pub starts: [u32; LIMIT],
     pub cells: [u16; CELLS],
     pub head: Head,
 }
 
+// The bodies are alike, but each call is the one in place of its own name.
 impl DmaTxStreamBufView {
     // The number of bytes available for writing.
     pub fn available_bytes(self, len: usize) -> Result<usize, DmaBufError>
