@@ -82,7 +82,7 @@ fn run_case(
     };
     let refused = crate::number(step.done.answer);
     let Took { taken, back } = step.done.answer.unwrap_or(Took { taken: 0, back: 0 });
-    let same = at == own && same_consumed(step.done, wanted(value, astray));
+    let same = at == own && step.done == wanted(value, astray);
     println!(rt;
         "{name} answered {refused}, taken {taken}, back {back}, cursor {} {}, the ring at {} {}: {}",
         at.record,
