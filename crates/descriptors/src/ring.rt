@@ -1,7 +1,6 @@
-// A ring without its records, and what is sound. Each scan has one test and one flag, and no way out before the end: so it is done
-// on many records at a time. Starts, cells and head are lent apart, here and in place: C lends them so, and a clause over a struct that
-// holds them would name each twice (`self.exit.cells.now`).
-ghost use Rattle.std.specs.Prelude.{◌≡◌, ◌+◌, ◌-◌, ◌*◌, ◌/◌, ◌%◌, ◌<◌, ◌≤◌, true, ◌&&◌, ◌||◌, [], length, if◌then◌else◌, ◌==◌, nat_eq, nat_le, nat_lt, slice_index};
+// A ring without its records, and what is sound. Starts, cells and head are lent apart, here and in place: C lends them so, and a clause
+// over a struct that holds them would name each twice (`self.exit.cells.now`).
+ghost use Rattle.std.specs.Prelude.{◌≡◌, ℕ, Bool, ◌+◌, ◌-◌, ◌*◌, ◌/◌, ◌%◌, ◌<◌, ◌≤◌, true, ◌&&◌, ◌||◌, [], length, if◌then◌else◌, ◌==◌, nat_eq, nat_le, nat_lt, slice_index};
 ghost use Rattle.descriptors.specs.Record.{limit, up_to};
 ghost use Rattle.descriptors.specs.Cells.{cells, record_at, all_below, are_records};
 ghost use Rattle.descriptors.specs.Stores.{lay_start, lay_size, lay_cells};
@@ -31,19 +30,29 @@ pub struct Kept<R, A> {
 
 // ---- the scans: each asks by itself that the words are whole, since they stay slices, as C lends them
 
-fn marks_ok(w: &[u16]) -> bool
-    requires { length w.now ≡ cells }
-    ensures { result ≡ all_below (λ j. nat_le (slice_index w.now (limit * 3 + j)) 1) (2 * limit) }
+// The scan. It has one flag, and no way out before the end: so it is done on many records at a time.
+#[tactic(auto, using(crate::specs::laws::Tests::flags))]
+fn all_below<F: Fn(usize) -> bool>(n: usize, test: F) -> bool
+    requires { (i : ℕ) → i < n → F.pre test i }
+    ensures { (p : ℕ → Bool) → ((i : ℕ) (b : Bool) → i < n → F.post test i b → b ≡ p i) → result ≡ all_below p n }
 {
     let mut ok = true;
-    for j in 0..2 * LIMIT {
-        if 1 < w[3 * LIMIT + j] {
+    for i in 0..n {
+        if !test(i) {
             ok = false;
         }
     }
     ok
 }
 
+fn marks_ok(w: &[u16]) -> bool
+    requires { length w.now ≡ cells }
+    ensures { result ≡ all_below (λ j. nat_le (slice_index w.now (limit * 3 + j)) 1) (2 * limit) }
+{
+    all_below(2 * LIMIT, |j| w[3 * LIMIT + j] <= 1)
+}
+
+// A loop of its own: tried as a scan, which has to multiply, and the judge of 64 records took an eighth longer.
 fn starts_ok(s: &[u32], n: usize, chunk: usize) -> bool
     requires { (length s.now ≡ limit) × (n ≤ limit) × (chunk ≤ 4095) }
     ensures { result ≡ all_below (λ i. nat_eq (slice_index s.now i) (i * chunk)) n }
@@ -73,41 +82,21 @@ fn sizes_ok(w: &[u16], n: usize, chunk: usize, last: usize) -> bool
     ensures { result ≡ (all_below (λ i. nat_eq (slice_index w.now i) chunk) (n - 1) && slice_index w.now (n - 1) == last) }
 {
     let size = chunk as u16;
-    let end = scan_end(n, chunk, last);
-    let mut ok = true;
-    for i in 0..end {
-        if w[i] != size {
-            ok = false;
-        }
-    }
-    ok && w[n - 1] == last as u16
+    all_below(scan_end(n, chunk, last), |i| w[i] == size) && w[n - 1] == last as u16
 }
 
 fn lengths_ok(w: &[u16], n: usize) -> bool
     requires { (length w.now ≡ cells) × (n ≤ limit) }
     ensures { result ≡ all_below (λ i. nat_le (slice_index w.now (limit + i)) (slice_index w.now i)) n }
 {
-    let mut ok = true;
-    for i in 0..n {
-        if w[i] < w[LIMIT + i] {
-            ok = false;
-        }
-    }
-    ok
+    all_below(n, |i| w[LIMIT + i] <= w[i])
 }
 
 fn nexts_ok(w: &[u16], n: usize) -> bool
     requires { (length w.now ≡ cells) × (n ≤ limit) }
     ensures { result ≡ all_below (λ i. nat_le (slice_index w.now (limit * 2 + i)) n) n }
 {
-    let most = n as u16;
-    let mut ok = true;
-    for i in 0..n {
-        if most < w[2 * LIMIT + i] {
-            ok = false;
-        }
-    }
-    ok
+    all_below(n, |i| w[2 * LIMIT + i] <= n as u16)
 }
 
 // ---- sound

@@ -1,6 +1,6 @@
 -- Tests that are joined, and tests of every number below a bound.
-use Rattle.std.specs.Prelude.{◌≡◌, ℕ, zero, suc, ◌+◌, ◌<◌, Bool, true, false, ◌&&◌, refl}
-use Rattle.std.proofs.Common.{sym, ◌∙◌, arith, add-one}
+use Rattle.std.specs.Prelude.{◌≡◌, ℕ, zero, suc, ◌+◌, ◌-◌, ◌<◌, Bool, true, false, cond, ◌&&◌, refl}
+use Rattle.std.proofs.Common.{sym, ap, ◌∙◌, arith, add-one}
 use Rattle.std.proofs.Math.Decide.{dec_lt}
 use Rattle.descriptors.specs.Cells.{all_below}
 
@@ -59,3 +59,14 @@ flag_cleared p i e = rw (add-one, e) (sym (and-never (all_below p i)))
 
 pub flag-kept : (p : ℕ → Bool) (i : ℕ) (ok : Bool) → ok ≡ all_below p i → p i ≡ true → ok ≡ all_below p (i + 1)
 flag-kept p i ok h e = rw (add-one, e) (h ∙ sym (and_right (all_below p i)))
+
+pub ruleset flags = (flag_cleared, flag-kept)
+
+-- a scan of all or of all but the last, before a test of the last
+pub but_last : (p : ℕ → Bool) (n : ℕ) (b y : Bool) → 0 < n → (b ≡ true → y ≡ true → p (n - 1) ≡ true)
+    → (all_below p (cond b n (n - 1)) && y) ≡ (all_below p (n - 1) && y)
+but_last p n false y h g = refl
+but_last p n true false h g = and-never (all_below p n) ∙ sym (and-never (all_below p (n - 1)))
+but_last p n true true h g =
+    let e : n - 1 + 1 ≡ n = omega arith in
+    ap (λ (b : Bool). b && true) (sym (flag-kept p (n - 1) (all_below p (n - 1)) refl (g refl refl) ∙ ap (all_below p) e))
