@@ -3,3 +3,4 @@ pub mod Digit
 pub mod Number
 pub mod Pairs
 pub mod Laws
+pub mod Output

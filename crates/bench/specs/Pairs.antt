@@ -1,13 +1,13 @@
 -- Bytes as pairs of hex digits.
-use Rattle.std.specs.Prelude.{ℕ, ◌+◌, ◌*◌, cond, ◌||◌, List, eqb, get_or}
-use Rattle.bench.specs.Digit.{none, value_of}
+use Rattle.std.specs.Prelude.{ℕ, ◌+◌, ◌*◌, List, get_or, Option, Some, None}
+use Rattle.bench.specs.Digit.{value_of}
 
--- no byte's value
-abbrev pub no_byte : ℕ
-no_byte = 256
+-- the byte that two digits' values spell, if both are digits
+abbrev pub byte_of : Option ℕ → Option ℕ → Option ℕ
+byte_of None low = None
+byte_of (Some high) None = None
+byte_of (Some high) (Some low) = Some (16 * high + low)
 
 -- pair i of the digits of a list
-unfoldable pub pair_at : List ℕ → ℕ → ℕ
-pair_at w i =
-    cond (eqb (value_of (get_or w (2 * i) 0)) none || eqb (value_of (get_or w (2 * i + 1) 0)) none) no_byte
-    (16 * value_of (get_or w (2 * i) 0) + value_of (get_or w (2 * i + 1) 0))
+unfoldable pub pair_at : List ℕ → ℕ → Option ℕ
+pair_at w i = byte_of (value_of (get_or w (2 * i) 0)) (value_of (get_or w (2 * i + 1) 0))

@@ -1,110 +1,133 @@
-// One argument, by its kind. Each is told as a number:
-//
-//     n  a number                            i  a record's number, up to 63
-//     a  one of 32 bits                      l  a buffer's length, up to 2,097,152
-//     h  one of 16 bits                      b  bytes: how many, which then stand in the data
-//     k  a record's next: 0 for `-`, else one more than the number
-//     d  the device's record: 0 for `stopped`, else one more than the number
-//     e  `-` 0, `eof` 1                      o  `cpu` 0, `dma` 1
-//     t  `in` 0, `out` 1                     c  `ordinary` 0, `s2` 1
-//     f  `eof` 1, or 0 where it is left out  r  a number, or 4095 where it is left out
-use crate::number::Number;
-use crate::pairs::Pairs;
+// The arguments of a command, each read from the next word by its kind.
+use crate::bench::BUFFER;
 use crate::why::Why;
+use crate::word::Words;
 use crate::{number, pairs};
+use burst::Region;
+use descriptors::record::{LIMIT, Owner, TransferDirection};
+use psram::chip::Chip;
 
-const MOST: usize = 18446744073709551615;
+// The room of a step's output where it is left out.
+const ROOM: usize = 4095;
 
-#[derive(Drop)]
-pub enum Argument {
-    Is(usize),
-    Wrong(Why),
-}
-
-fn at_most(word: &[u8], most: usize) -> Argument {
-    match number::read(word) {
-        Number::Malformed => Argument::Wrong(Why::NoNumber),
-        Number::TooLarge => Argument::Wrong(Why::OutOfRange),
-        Number::Is(v) => {
-            if most < v {
-                return Argument::Wrong(Why::OutOfRange);
-            }
-            Argument::Is(v)
-        }
+fn up_to(word: &[u8], most: usize) -> Result<usize, Why> {
+    let v = number::read(word)?;
+    if most < v {
+        return Err(Why::OutOfRange);
     }
+    Ok(v)
 }
 
-// 0 for the word `none`, else one more than a number that is below `most`.
-fn or_none(word: &[u8], none: &[u8], most: usize) -> Argument {
+// A number up to `most`, or the word `none`.
+fn or_none(word: &[u8], none: &[u8], most: u16) -> Result<Option<u16>, Why> {
     if word == none {
-        return Argument::Is(0);
+        return Ok(None);
     }
-    match at_most(word, most) {
-        Argument::Wrong(why) => Argument::Wrong(why),
-        Argument::Is(v) => {
-            if v == MOST {
-                return Argument::Wrong(Why::OutOfRange);
-            }
-            Argument::Is(v + 1)
+    Ok(Some(u16::try_from(up_to(word, most as usize)?)?))
+}
+
+impl Words<'_> {
+    fn argument(&mut self) -> Result<&[u8], Why> {
+        self.word().ok_or(Why::Missing)
+    }
+
+    pub fn number(&mut self) -> Result<usize, Why> {
+        number::read(self.argument()?)
+    }
+
+    pub fn number32(&mut self) -> Result<u32, Why> {
+        Ok(u32::try_from(self.number()?)?)
+    }
+
+    pub fn number16(&mut self) -> Result<u16, Why> {
+        Ok(u16::try_from(self.number()?)?)
+    }
+
+    // A record's number.
+    pub fn record(&mut self) -> Result<usize, Why> {
+        up_to(self.argument()?, LIMIT - 1)
+    }
+
+    // A buffer's length.
+    pub fn length(&mut self) -> Result<usize, Why> {
+        up_to(self.argument()?, BUFFER)
+    }
+
+    pub fn next_record(&mut self) -> Result<Option<u16>, Why> {
+        or_none(self.argument()?, b"-", 65534)
+    }
+
+    // The record that the device is on.
+    pub fn device(&mut self) -> Result<Option<u16>, Why> {
+        or_none(self.argument()?, b"stopped", 65535)
+    }
+
+    pub fn suc_eof(&mut self) -> Result<bool, Why> {
+        match self.argument()? {
+            b"-" => Ok(false),
+            b"eof" => Ok(true),
+            _ => Err(Why::NoSuchWord),
         }
     }
-}
 
-// One of two words.
-fn either(word: &[u8], first: &[u8], second: &[u8]) -> Argument {
-    if word == first {
-        return Argument::Is(0);
+    pub fn owner(&mut self) -> Result<Owner, Why> {
+        match self.argument()? {
+            b"cpu" => Ok(Owner::Cpu),
+            b"dma" => Ok(Owner::Dma),
+            _ => Err(Why::NoSuchWord),
+        }
     }
-    if word == second {
-        return Argument::Is(1);
-    }
-    Argument::Wrong(Why::NoSuchWord)
-}
 
-fn of_bytes(word: &[u8], data: &mut [u8]) -> Argument {
-    match pairs::read(word, data) {
-        Pairs::Bytes(k) => Argument::Is(k),
-        Pairs::Odd => Argument::Wrong(Why::Odd),
-        Pairs::Malformed => Argument::Wrong(Why::NoBytes),
-        Pairs::TooMany => Argument::Wrong(Why::TooLong),
+    pub fn direction(&mut self) -> Result<TransferDirection, Why> {
+        match self.argument()? {
+            b"in" => Ok(TransferDirection::In),
+            b"out" => Ok(TransferDirection::Out),
+            _ => Err(Why::NoSuchWord),
+        }
     }
-}
 
-fn of_words(word: &[u8], kind: u8) -> Argument {
-    match kind {
-        b'e' => either(word, b"-", b"eof"),
-        b'o' => either(word, b"cpu", b"dma"),
-        b't' => either(word, b"in", b"out"),
-        b'c' => either(word, b"ordinary", b"s2"),
-        b'f' => either(word, b"", b"eof"),
-        b'k' => or_none(word, b"-", 65534),
-        _ => or_none(word, b"stopped", 65535),
+    pub fn chip(&mut self) -> Result<Chip, Why> {
+        match self.argument()? {
+            b"ordinary" => Ok(Chip::Ordinary),
+            b"s2" => Ok(Chip::S2),
+            _ => Err(Why::NoSuchWord),
+        }
     }
-}
 
-fn given(word: &[u8], kind: u8, data: &mut [u8]) -> Argument {
-    match kind {
-        b'n' | b'r' => at_most(word, MOST),
-        b'a' => at_most(word, 4294967295),
-        b'h' => at_most(word, 65535),
-        b'i' => at_most(word, 63),
-        b'l' => at_most(word, 2097152),
-        b'b' => of_bytes(word, data),
-        _ => of_words(word, kind),
+    // Two addresses.
+    pub fn region(&mut self) -> Result<Region, Why> {
+        Ok(Region {
+            start: self.number()? as u64,
+            end: self.number()? as u64,
+        })
     }
-}
 
-fn left_out(kind: u8) -> Argument {
-    match kind {
-        b'f' => Argument::Is(0),
-        b'r' => Argument::Is(4095),
-        _ => Argument::Wrong(Why::Missing),
+    // Bytes, to the data's front.
+    pub fn bytes<'a>(&mut self, data: &'a mut [u8]) -> Result<&'a [u8], Why> {
+        pairs::read(self.argument()?, data)
     }
-}
 
-pub fn read(word: &[u8], kind: u8, data: &mut [u8]) -> Argument {
-    if word.len() == 0 {
-        return left_out(kind);
+    // Whether the word `eof` stands there.
+    pub fn eof(&mut self) -> Result<bool, Why> {
+        match self.word() {
+            None => Ok(false),
+            Some(b"eof") => Ok(true),
+            Some(_) => Err(Why::NoSuchWord),
+        }
     }
-    given(word, kind, data)
+
+    pub fn room(&mut self) -> Result<usize, Why> {
+        match self.word() {
+            None => Ok(ROOM),
+            Some(word) => number::read(word),
+        }
+    }
+
+    // There is no further word.
+    pub fn end(&mut self) -> Result<(), Why> {
+        match self.word() {
+            None => Ok(()),
+            Some(_) => Err(Why::Surplus),
+        }
+    }
 }

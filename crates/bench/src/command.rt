@@ -1,219 +1,228 @@
-// The commands: their names, and the kinds of their arguments.
-use crate::arguments;
-use crate::arguments::Arguments;
-use crate::word::same;
+// The commands, and how a line spells one.
+use crate::why::Why;
+use crate::word::Words;
+use burst::Region;
+use descriptors::record::{DmaDescriptor, TransferDirection};
+use psram::chip::Chip;
+
+// The most bytes of a line.
+pub const LINE: usize = 16384;
 
 #[derive(Clone, Copy)]
-pub enum Command {
-    Unknown,
-    Record,
-    Rx,
-    Tx,
-    Align,
-    Cut,
-    Pieces,
-    Between,
-    Ring(OfRing),
-    Receive(OfReceive),
-    Transmit(OfTransmit),
+pub enum Command<'a> {
+    Record {
+        i: usize,
+        descriptor: DmaDescriptor,
+    },
+    New {
+        direction: TransferDirection,
+        n: usize,
+        len: usize,
+    },
+    Align(Align),
+    Cut(Range),
+    Pieces {
+        n: usize,
+        range: Range,
+        store: usize,
+    },
+    Between {
+        earlier: u32,
+        later: u32,
+    },
+    Ring(OfRing<'a>),
+    Receive(OfReceive<'a>),
+    Transmit(OfTransmit<'a>),
+}
+
+// What the alignment check asks for.
+#[derive(Clone, Copy)]
+pub struct Align {
+    pub address: u32,
+    pub length: u32,
+    pub direction: TransferDirection,
+    pub internal: Region,
+    pub external: Region,
+    pub internal_alignment: u32,
+    pub external_alignment: u32,
+}
+
+impl Align {
+    fn read(words: &mut Words) -> Result<Align, Why> {
+        Ok(Align {
+            address: words.number32()?,
+            length: words.number32()?,
+            direction: words.direction()?,
+            internal: words.region()?,
+            external: words.region()?,
+            internal_alignment: words.number32()?,
+            external_alignment: words.number32()?,
+        })
+    }
+}
+
+// A range of external memory.
+#[derive(Clone, Copy)]
+pub struct Range {
+    pub address: u32,
+    pub length: u32,
+    pub chip: Chip,
+}
+
+impl Range {
+    fn read(words: &mut Words) -> Result<Range, Why> {
+        Ok(Range {
+            address: words.number32()?,
+            length: words.number32()?,
+            chip: words.chip()?,
+        })
+    }
 }
 
 // On a ring of either direction.
 #[derive(Clone, Copy)]
-pub enum OfRing {
+pub enum OfRing<'a> {
     Prepare,
-    Cursor,
-    Tally,
-    Device,
-    Bytes,
     Available,
+    Cursor { i: usize, offset: usize },
+    Tally(u32),
+    Device(Option<u16>),
+    Bytes { at: usize, bytes: &'a [u8] },
     Show,
 }
 
 #[derive(Clone, Copy)]
-pub enum OfReceive {
+pub enum OfReceive<'a> {
     Peek,
     PeekUntilEof,
-    Consume,
-    Pop,
-    Fill,
+    Consume(usize),
+    Pop(usize),
+    Fill { bytes: &'a [u8], eof: bool },
 }
 
 #[derive(Clone, Copy)]
-pub enum OfTransmit {
-    Prefilled,
-    Prefill,
+pub enum OfTransmit<'a> {
+    Prefilled(usize),
+    Prefill(&'a [u8]),
     OfferPrefill,
-    CommitPrefill,
-    Push,
+    CommitPrefill(usize),
+    Push(&'a [u8]),
     Offer,
-    Commit,
-    Advance,
-    Send,
+    Commit(usize),
+    Advance(usize),
+    Send(usize),
 }
 
-fn of_ring(word: &[u8]) -> Command {
-    if same(word, b"available") {
-        return Command::Ring(OfRing::Available);
-    }
-    if same(word, b"show") {
-        return Command::Ring(OfRing::Show);
-    }
-    if same(word, b"prepare") {
-        return Command::Ring(OfRing::Prepare);
-    }
-    if same(word, b"cursor") {
-        return Command::Ring(OfRing::Cursor);
-    }
-    if same(word, b"tally") {
-        return Command::Ring(OfRing::Tally);
-    }
-    if same(word, b"device") {
-        return Command::Ring(OfRing::Device);
-    }
-    if same(word, b"bytes") {
-        return Command::Ring(OfRing::Bytes);
-    }
-    Command::Unknown
+fn descriptor(words: &mut Words) -> Result<DmaDescriptor, Why> {
+    Ok(DmaDescriptor {
+        buffer: words.number32()?,
+        size: words.number16()?,
+        length: words.number16()?,
+        suc_eof: words.suc_eof()?,
+        owner: words.owner()?,
+        next: words.next_record()?,
+    })
 }
 
-fn of_receive(word: &[u8]) -> Command {
-    if same(word, b"peek") {
-        return Command::Receive(OfReceive::Peek);
-    }
-    if same(word, b"peek_until_eof") {
-        return Command::Receive(OfReceive::PeekUntilEof);
-    }
-    if same(word, b"consume") {
-        return Command::Receive(OfReceive::Consume);
-    }
-    if same(word, b"pop") {
-        return Command::Receive(OfReceive::Pop);
-    }
-    if same(word, b"fill") {
-        return Command::Receive(OfReceive::Fill);
-    }
-    Command::Unknown
+fn record<'a>(words: &mut Words) -> Result<Command<'a>, Why> {
+    Ok(Command::Record {
+        i: words.record()?,
+        descriptor: descriptor(words)?,
+    })
 }
 
-fn before_prepare(word: &[u8]) -> Command {
-    if same(word, b"prefilled") {
-        return Command::Transmit(OfTransmit::Prefilled);
-    }
-    if same(word, b"prefill") {
-        return Command::Transmit(OfTransmit::Prefill);
-    }
-    if same(word, b"offer_prefill") {
-        return Command::Transmit(OfTransmit::OfferPrefill);
-    }
-    if same(word, b"commit_prefill") {
-        return Command::Transmit(OfTransmit::CommitPrefill);
-    }
-    Command::Unknown
+fn new<'a>(direction: TransferDirection, words: &mut Words) -> Result<Command<'a>, Why> {
+    Ok(Command::New {
+        direction,
+        n: words.number()?,
+        len: words.length()?,
+    })
 }
 
-fn of_transmit(word: &[u8]) -> Command {
-    if same(word, b"push") {
-        return Command::Transmit(OfTransmit::Push);
-    }
-    if same(word, b"offer") {
-        return Command::Transmit(OfTransmit::Offer);
-    }
-    if same(word, b"commit") {
-        return Command::Transmit(OfTransmit::Commit);
-    }
-    if same(word, b"advance") {
-        return Command::Transmit(OfTransmit::Advance);
-    }
-    if same(word, b"send") {
-        return Command::Transmit(OfTransmit::Send);
-    }
-    before_prepare(word)
+fn pieces<'a>(words: &mut Words) -> Result<Command<'a>, Why> {
+    Ok(Command::Pieces {
+        n: words.number()?,
+        range: Range::read(words)?,
+        store: words.number()?,
+    })
 }
 
-fn of_none(word: &[u8]) -> Command {
-    if same(word, b"record") {
-        return Command::Record;
-    }
-    if same(word, b"rx") {
-        return Command::Rx;
-    }
-    if same(word, b"tx") {
-        return Command::Tx;
-    }
-    if same(word, b"align") {
-        return Command::Align;
-    }
-    if same(word, b"cut") {
-        return Command::Cut;
-    }
-    if same(word, b"pieces") {
-        return Command::Pieces;
-    }
-    if same(word, b"between") {
-        return Command::Between;
-    }
-    Command::Unknown
+fn between<'a>(words: &mut Words) -> Result<Command<'a>, Why> {
+    Ok(Command::Between {
+        earlier: words.number32()?,
+        later: words.number32()?,
+    })
 }
 
-// The command that a word names.
-pub fn named(word: &[u8]) -> Command {
-    let ring = of_ring(word);
-    let Command::Unknown = ring else {
-        return ring;
+fn cursor<'a>(words: &mut Words) -> Result<OfRing<'a>, Why> {
+    Ok(OfRing::Cursor {
+        i: words.number()?,
+        offset: words.number()?,
+    })
+}
+
+fn bytes<'a>(words: &mut Words, data: &'a mut [u8]) -> Result<OfRing<'a>, Why> {
+    Ok(OfRing::Bytes {
+        at: words.number()?,
+        bytes: words.bytes(data)?,
+    })
+}
+
+fn fill<'a>(words: &mut Words, data: &'a mut [u8]) -> Result<OfReceive<'a>, Why> {
+    Ok(OfReceive::Fill {
+        bytes: words.bytes(data)?,
+        eof: words.eof()?,
+    })
+}
+
+// The command that a name and the words behind it spell.
+fn named<'a>(name: &[u8], words: &mut Words, data: &'a mut [u8]) -> Result<Command<'a>, Why> {
+    Ok(match name {
+        b"available" => Command::Ring(OfRing::Available),
+        b"show" => Command::Ring(OfRing::Show),
+        b"prepare" => Command::Ring(OfRing::Prepare),
+        b"cursor" => Command::Ring(cursor(words)?),
+        b"tally" => Command::Ring(OfRing::Tally(words.number32()?)),
+        b"device" => Command::Ring(OfRing::Device(words.device()?)),
+        b"bytes" => Command::Ring(bytes(words, data)?),
+        b"peek" => Command::Receive(OfReceive::Peek),
+        b"peek_until_eof" => Command::Receive(OfReceive::PeekUntilEof),
+        b"consume" => Command::Receive(OfReceive::Consume(words.number()?)),
+        b"pop" => Command::Receive(OfReceive::Pop(words.number()?)),
+        b"fill" => Command::Receive(fill(words, data)?),
+        b"push" => Command::Transmit(OfTransmit::Push(words.bytes(data)?)),
+        b"offer" => Command::Transmit(OfTransmit::Offer),
+        b"commit" => Command::Transmit(OfTransmit::Commit(words.number()?)),
+        b"advance" => Command::Transmit(OfTransmit::Advance(words.number()?)),
+        b"send" => Command::Transmit(OfTransmit::Send(words.room()?)),
+        b"prefilled" => Command::Transmit(OfTransmit::Prefilled(words.number()?)),
+        b"prefill" => Command::Transmit(OfTransmit::Prefill(words.bytes(data)?)),
+        b"offer_prefill" => Command::Transmit(OfTransmit::OfferPrefill),
+        b"commit_prefill" => Command::Transmit(OfTransmit::CommitPrefill(words.number()?)),
+        b"record" => record(words)?,
+        b"rx" => new(TransferDirection::In, words)?,
+        b"tx" => new(TransferDirection::Out, words)?,
+        b"align" => Command::Align(Align::read(words)?),
+        b"cut" => Command::Cut(Range::read(words)?),
+        b"pieces" => pieces(words)?,
+        b"between" => between(words)?,
+        _ => return Err(Why::Unknown),
+    })
+}
+
+// The command of a line; none where it is a comment or has no word. Bytes among its arguments go to the data's front.
+pub fn read<'a>(line: &[u8], data: &'a mut [u8]) -> Result<Option<Command<'a>>, Why> {
+    if LINE < line.len() {
+        return Err(Why::TooLong);
+    }
+    if line.starts_with(b"#") {
+        return Ok(None);
+    }
+    let mut words = Words::of(line);
+    let Some(name) = words.word() else {
+        return Ok(None);
     };
-    let receive = of_receive(word);
-    let Command::Unknown = receive else {
-        return receive;
-    };
-    let transmit = of_transmit(word);
-    let Command::Unknown = transmit else {
-        return transmit;
-    };
-    of_none(word)
-}
-
-fn ring_arguments(c: OfRing, line: &[u8], from: usize, data: &mut [u8]) -> Arguments {
-    match c {
-        OfRing::Cursor => arguments::read(line, from, b"nn", data),
-        OfRing::Tally => arguments::read(line, from, b"a", data),
-        OfRing::Device => arguments::read(line, from, b"d", data),
-        OfRing::Bytes => arguments::read(line, from, b"nb", data),
-        _ => arguments::read(line, from, b"", data),
-    }
-}
-
-fn receive_arguments(c: OfReceive, line: &[u8], from: usize, data: &mut [u8]) -> Arguments {
-    match c {
-        OfReceive::Consume => arguments::read(line, from, b"n", data),
-        OfReceive::Pop => arguments::read(line, from, b"n", data),
-        OfReceive::Fill => arguments::read(line, from, b"bf", data),
-        _ => arguments::read(line, from, b"", data),
-    }
-}
-
-fn transmit_arguments(c: OfTransmit, line: &[u8], from: usize, data: &mut [u8]) -> Arguments {
-    match c {
-        OfTransmit::Prefill => arguments::read(line, from, b"b", data),
-        OfTransmit::Push => arguments::read(line, from, b"b", data),
-        OfTransmit::Send => arguments::read(line, from, b"r", data),
-        OfTransmit::Offer => arguments::read(line, from, b"", data),
-        OfTransmit::OfferPrefill => arguments::read(line, from, b"", data),
-        _ => arguments::read(line, from, b"n", data),
-    }
-}
-
-// The arguments of a command, from the words behind its name.
-pub fn arguments_of(c: Command, line: &[u8], from: usize, data: &mut [u8]) -> Arguments {
-    match c {
-        Command::Ring(r) => ring_arguments(r, line, from, data),
-        Command::Receive(r) => receive_arguments(r, line, from, data),
-        Command::Transmit(t) => transmit_arguments(t, line, from, data),
-        Command::Record => arguments::read(line, from, b"iahheok", data),
-        Command::Align => arguments::read(line, from, b"aatnnnnaa", data),
-        Command::Cut => arguments::read(line, from, b"aac", data),
-        Command::Pieces => arguments::read(line, from, b"naacn", data),
-        Command::Between => arguments::read(line, from, b"aa", data),
-        _ => arguments::read(line, from, b"nl", data),
-    }
+    let command = named(name, &mut words, data)?;
+    words.end()?;
+    Ok(Some(command))
 }

@@ -1,41 +1,25 @@
 // A digit's value and a value's digit.
-ghost use Rattle.std.specs.Prelude.{◌≡◌, ◌≤◌, ◌%◌};
-ghost use Rattle.bench.specs.Digit.{none, value_of, digit_of};
+ghost use Rattle.std.specs.Prelude.{◌≡◌, ◌<◌, ◌%◌, IfSome};
+ghost use Rattle.bench.specs.Digit.{value_of, digit_of};
 
-// No digit's value.
-pub const NONE: usize = 16;
-
-pub fn value_of(b: u8) -> usize
-    ensures { (result ≡ value_of b) × (result ≤ none) }
+#[tactic(auto, unfolding(crate::specs::Digit::value_of))]
+pub fn value_of(b: u8) -> Option<u8>
+    ensures value { result ≡ value_of b }
+    ensures small { IfSome result (λ d. d < 16) }
 {
-    if b < b'0' {
-        return NONE;
+    match b {
+        b'0'..=b'9' => Some(b - b'0'),
+        b'A'..=b'F' => Some(b - b'A' + 10),
+        b'a'..=b'f' => Some(b - b'a' + 10),
+        _ => None,
     }
-    if b <= b'9' {
-        return (b - b'0') as usize;
-    }
-    if b < b'A' {
-        return NONE;
-    }
-    if b <= b'F' {
-        return (b - b'A') as usize + 10;
-    }
-    if b < b'a' {
-        return NONE;
-    }
-    if b <= b'f' {
-        return (b - b'a') as usize + 10;
-    }
-    NONE
 }
 
 // The digit of a value's last four bits.
+#[tactic(auto, unfolding(crate::specs::Digit::digit_of))]
 pub fn digit_of(v: u8) -> u8
     ensures { result ≡ digit_of (v % 16) }
 {
     let d = v % 16;
-    if d < 10 {
-        return b'0' + d;
-    }
-    b'a' + (d - 10)
+    if d < 10 { b'0' + d } else { b'a' + (d - 10) }
 }

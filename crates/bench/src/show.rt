@@ -1,88 +1,88 @@
 // The state, as the commands that set it up again.
-use crate::state::{Bench, Ring};
-use crate::{put, say};
+use crate::bench::Ring;
 use descriptors::cells;
-use descriptors::record::{DmaDescriptor, Owner};
+use descriptors::record::{DmaDescriptor, Owner, TransferDirection};
+use std::fmt;
 
-fn next(out: &mut [u8], at: usize, next: Option<u16>, none: &[u8]) -> usize {
-    match next {
-        None => put::text(out, at, none),
-        Some(i) => put::number(out, at, i as usize),
+#[derive(Clone, Copy)]
+pub struct Show<'a> {
+    pub ring: Ring,
+    pub starts: &'a [u32],
+    pub cells: &'a [u16],
+}
+
+// A record's number, or the word for none.
+#[derive(Clone, Copy)]
+struct OrNone<'a>(Option<u16>, &'a str);
+
+impl fmt::Display for OrNone<'_> {
+    fn fmt<W: fmt::Write>(&self, f: &mut fmt::Formatter<W>) -> fmt::Result {
+        match self.0 {
+            Some(i) => write!(f, "{i}"),
+            None => f.write_str(self.1),
+        }
     }
 }
 
-fn owner(out: &mut [u8], at: usize, owner: Owner) -> usize {
-    match owner {
-        Owner::Cpu => put::text(out, at, b"cpu "),
-        Owner::Dma => put::text(out, at, b"dma "),
+// A record, as `record` sets it.
+#[derive(Clone, Copy)]
+struct Record(usize, DmaDescriptor);
+
+impl fmt::Display for Record {
+    fn fmt<W: fmt::Write>(&self, f: &mut fmt::Formatter<W>) -> fmt::Result {
+        let i = self.0;
+        let DmaDescriptor {
+            buffer,
+            size,
+            length,
+            suc_eof,
+            owner,
+            next,
+        } = self.1;
+        let eof = if suc_eof { "eof" } else { "-" };
+        let owner = match owner {
+            Owner::Cpu => "cpu",
+            Owner::Dma => "dma",
+        };
+        write!(
+            f,
+            "record {i} {buffer} {size} {length} {eof} {owner} {}",
+            OrNone(next, "-")
+        )
     }
-}
-
-fn mark(out: &mut [u8], at: usize, eof: bool) -> usize {
-    if eof {
-        return put::text(out, at, b" eof ");
-    }
-    put::text(out, at, b" - ")
-}
-
-fn sizes(d: DmaDescriptor, i: usize, out: &mut [u8], at: usize) -> usize {
-    let mut e = say::count(out, at, b"record ", i);
-    e = say::count(out, e, b" ", d.buffer as usize);
-    e = say::count(out, e, b" ", d.size as usize);
-    say::count(out, e, b" ", d.length as usize)
-}
-
-fn record<'a>(s: &'a [u32], w: &'a [u16], i: usize, out: &mut [u8], at: usize) -> usize {
-    let d = cells::descriptor(s, w, i);
-    let mut e = sizes(d, i, out, at);
-    e = mark(out, e, d.suc_eof);
-    let o = d.owner;
-    e = owner(out, e, o);
-    let n = d.next;
-    e = next(out, e, n, b"-");
-    put::end(out, e)
-}
-
-fn records<'a>(s: &'a [u32], w: &'a [u16], n: usize, out: &mut [u8], at: usize) -> usize {
-    let mut e = at;
-    let mut i: usize = 0;
-    while i < n {
-        e = record(s, w, i, out, e);
-        i += 1;
-    }
-    e
 }
 
 // The ring itself; the count before `prepare` stands in a transmit ring alone.
-fn ring(b: Bench, out: &mut [u8], at: usize) -> usize {
-    let kind = b.ring;
-    match kind {
-        Ring::Transmit => {
-            let mut e = say::count(out, at, b"tx ", b.head.count);
-            e = say::count(out, e, b" ", b.len);
-            e = say::count(out, e, b"\nprefilled ", b.head.pre_filled);
-            put::end(out, e)
-        }
-        _ => {
-            let mut e = say::count(out, at, b"rx ", b.head.count);
-            e = say::count(out, e, b" ", b.len);
-            put::end(out, e)
+impl fmt::Display for Ring {
+    fn fmt<W: fmt::Write>(&self, f: &mut fmt::Formatter<W>) -> fmt::Result {
+        let count = self.head.count;
+        let len = self.len;
+        match self.direction {
+            TransferDirection::In => write!(f, "rx {count} {len}"),
+            TransferDirection::Out => {
+                let pre_filled = self.head.pre_filled;
+                write!(f, "tx {count} {len}\nprefilled {pre_filled}")
+            }
         }
     }
 }
 
-fn places(b: Bench, out: &mut [u8], at: usize) -> usize {
-    let mut e = say::count(out, at, b"cursor ", b.head.descriptor_idx);
-    e = say::count(out, e, b" ", b.head.descriptor_offset);
-    e = say::count(out, e, b"\ntally ", b.head.tally as usize);
-    put::text(out, e, b"\ndevice ")
-}
-
-pub fn show<'a>(s: &'a [u32], w: &'a [u16], b: Bench, out: &mut [u8], at: usize) -> usize {
-    let mut e = ring(b, out, at);
-    e = places(b, out, e);
-    let device = b.device;
-    e = next(out, e, device, b"stopped");
-    e = put::end(out, e);
-    records(s, w, b.head.count, out, e)
+impl fmt::Display for Show<'_> {
+    fn fmt<W: fmt::Write>(&self, f: &mut fmt::Formatter<W>) -> fmt::Result {
+        let ring = self.ring;
+        let head = ring.head;
+        let i = head.descriptor_idx;
+        let offset = head.descriptor_offset;
+        let tally = head.tally;
+        let device = OrNone(ring.device, "stopped");
+        write!(
+            f,
+            "{ring}\ncursor {i} {offset}\ntally {tally}\ndevice {device}"
+        )?;
+        for i in 0..head.count {
+            let record = Record(i, cells::descriptor(self.starts, self.cells, i));
+            write!(f, "\n{record}")?;
+        }
+        Ok(())
+    }
 }

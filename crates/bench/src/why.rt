@@ -1,7 +1,8 @@
 // Why a line is no command, or a command cannot be carried out.
-use crate::put;
+use std::fmt;
+use std::num::TryFromIntError;
 
-#[derive(Drop)]
+#[derive(Clone, Copy, Debug, PartialEq, Eq)]
 pub enum Why {
     TooLong,
     Unknown,
@@ -17,19 +18,27 @@ pub enum Why {
     PastEnd,
 }
 
-pub fn put(out: &mut [u8], at: usize, why: Why) -> usize {
-    match why {
-        Why::TooLong => put::text(out, at, b"error: the line is too long\n"),
-        Why::Unknown => put::text(out, at, b"error: no such command\n"),
-        Why::Missing => put::text(out, at, b"error: an argument is missing\n"),
-        Why::Surplus => put::text(out, at, b"error: more words than the command takes\n"),
-        Why::NoNumber => put::text(out, at, b"error: not a number\n"),
-        Why::OutOfRange => put::text(out, at, b"error: the number is out of range\n"),
-        Why::NoBytes => put::text(out, at, b"error: not pairs of hex digits\n"),
-        Why::Odd => put::text(out, at, b"error: an odd number of hex digits\n"),
-        Why::NoSuchWord => put::text(out, at, b"error: not a word that may stand there\n"),
-        Why::NoRing => put::text(out, at, b"error: there is no ring\n"),
-        Why::OtherWay => put::text(out, at, b"error: the ring is of the other direction\n"),
-        Why::PastEnd => put::text(out, at, b"error: past the end of the buffer\n"),
+impl fmt::Display for Why {
+    fn fmt<W: fmt::Write>(&self, f: &mut fmt::Formatter<W>) -> fmt::Result {
+        f.write_str(match self {
+            Why::TooLong => "the line is too long",
+            Why::Unknown => "no such command",
+            Why::Missing => "an argument is missing",
+            Why::Surplus => "more words than the command takes",
+            Why::NoNumber => "not a number",
+            Why::OutOfRange => "the number is out of range",
+            Why::NoBytes => "not pairs of hex digits",
+            Why::Odd => "an odd number of hex digits",
+            Why::NoSuchWord => "not a word that may stand there",
+            Why::NoRing => "there is no ring",
+            Why::OtherWay => "the ring is of the other direction",
+            Why::PastEnd => "past the end of the buffer",
+        })
+    }
+}
+
+impl From<TryFromIntError> for Why {
+    fn from(_error: TryFromIntError) -> Why {
+        Why::OutOfRange
     }
 }
