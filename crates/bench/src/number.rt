@@ -21,6 +21,7 @@ fn numeral(digits: &[u8], base: usize) -> Result<usize, Why>
     Ok(value)
 }
 
+// Not a slice pattern with the digits behind it: tried, and a proof knows of its arms the length alone.
 #[tactic(auto, unfolding(crate::specs::Number::is_hex))]
 fn is_hex(word: &[u8]) -> bool
     ensures { result ≡ is_hex word.now }

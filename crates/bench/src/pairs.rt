@@ -61,6 +61,7 @@ impl fmt::Display for Pairs<'_> {
             for (pair, b) in digits.iter_mut().zip(part) {
                 *pair = [digit::digit_of(*b / 16), digit::digit_of(*b)];
             }
+            // No part is longer, but `chunks` does not say so to the check.
             let text = digits[..part.len().min(SPELLED)].as_flattened();
             f.write_str(str::from_utf8(text).map_err(|_| fmt::Error)?)?;
         }
