@@ -106,20 +106,13 @@ impl Bench {
         n: usize,
         len: usize,
     ) -> Result<(), Fault> {
-        let mut head = Head::default();
-        ring::new_in(
-            direction,
-            &mut self.starts,
-            &mut self.cells,
-            &mut head,
-            n,
-            len,
-        )?;
+        let made = ring::new_in(direction, &mut self.starts, &mut self.cells, n, len);
+        made.answer?;
         let all = len.min(BUFFER);
         self.buffer[..all].fill(0);
         self.ring = Some(Ring {
             direction,
-            head,
+            head: made.ring,
             len,
             device: stand::start(),
         });

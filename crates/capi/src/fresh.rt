@@ -8,7 +8,6 @@ use crate::{answer, words};
 use descriptors::record::TransferDirection;
 use descriptors::refusal::DmaBufError;
 use descriptors::ring;
-use descriptors::ring::Head;
 
 // The head is written where the ring is made.
 #[tactic(auto, unfolding(crate::specs::New::new_starts, crate::specs::New::new_cells, crate::specs::New::new_head, crate::specs::New::new_number, crate::specs::Words::head_made))]
@@ -28,10 +27,10 @@ pub(crate) fn new(
     if head.len() != words::WORDS {
         return answer::number(DmaBufError::BadState);
     }
-    let mut h = Head::default();
-    match ring::new_in(dir, starts, cells, &mut h, count, len) {
+    let made = ring::new_in(dir, starts, cells, count, len);
+    match made.answer {
         Ok(()) => {
-            words::put(head, h);
+            words::put(head, made.ring);
             0
         }
         Err(e) => answer::number(e),

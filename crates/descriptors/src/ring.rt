@@ -219,25 +219,39 @@ fn lay_sizes(w: &mut [u16], dir: TransferDirection, n: usize, len: usize, chunk:
     }
 }
 
-// Both `new`s: the buffer's len bytes split over the first n of the lent records, and the head of a ring that begins.
+// Both `new`s: the buffer's len bytes split over the first n of the lent records. The head is answered, not lent: so a refusal changes
+// nothing. It is one of a ring that begins, after a refusal too.
 pub fn new_in(
     dir: TransferDirection,
     s: &mut [u32],
     w: &mut [u16],
-    h: &mut Head,
     n: usize,
     len: usize,
-) -> Result<(), DmaBufError>
-    ensures { NewIn dir s.old w.old n len s.new w.new h.new result }
+) -> Kept<Head, ()>
+    ensures { NewIn dir s.old w.old n len s.new w.new result.ring result.answer }
 {
-    *h = fresh(n);
-    let Split { chunk, rest } = split::split_of(n, len)?;
+    let ring = fresh(n);
+    let Split { chunk, rest } = match split::split_of(n, len) {
+        Ok(parts) => parts,
+        Err(e) => {
+            return Kept {
+                ring,
+                answer: Err(e),
+            };
+        }
+    };
     if !are_records(s, w) {
-        return Err(DmaBufError::BadState);
+        return Kept {
+            ring,
+            answer: Err(DmaBufError::BadState),
+        };
     }
     lay_starts(s, n, len, chunk);
     lay_sizes(w, dir, n, len, chunk, rest);
-    Ok(())
+    Kept {
+        ring,
+        answer: Ok(()),
+    }
 }
 
 // The bytes between an earlier reading of a tally and a later one.

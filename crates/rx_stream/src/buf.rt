@@ -30,12 +30,10 @@ impl DmaRxStreamBuf {
     ) -> Kept<DmaRxStreamBuf, ()>
         ensures { result ≡ kept_of (buf_new starts cells) (new_of TransferDirection.In (records_of starts cells) n (length buffer.now)) }
     {
-        let mut head = Head::default();
-        let answer = ring::new_in(
+        let made = ring::new_in(
             TransferDirection::In,
             &mut starts,
             &mut cells,
-            &mut head,
             n,
             buffer.len(),
         );
@@ -43,9 +41,9 @@ impl DmaRxStreamBuf {
             ring: DmaRxStreamBuf {
                 starts,
                 cells,
-                head,
+                head: made.ring,
             },
-            answer,
+            answer: made.answer,
         }
     }
 

@@ -38,15 +38,18 @@ impl DmaTxStreamBuf {
             cells,
             head: Head::default(),
         };
-        let answer = ring::new_in(
+        let made = ring::new_in(
             TransferDirection::Out,
             &mut ring.starts,
             &mut ring.cells,
-            &mut ring.head,
             n,
             buffer.len(),
         );
-        Kept { ring, answer }
+        ring.head = made.ring;
+        Kept {
+            ring,
+            answer: made.answer,
+        }
     }
 
     // Gives the records back. An array goes through a variable, here and below: tried straight in the literal, and the check does not take it.
