@@ -231,14 +231,12 @@ pub fn new_in(
     ensures { NewIn dir s.old w.old n len s.new w.new result.ring result.answer }
 {
     let ring = fresh(n);
-    let Split { chunk, rest } = match split::split_of(n, len) {
-        Ok(parts) => parts,
-        Err(e) => {
-            return Kept {
-                ring,
-                answer: Err(e),
-            };
-        }
+    let parts = split::split_of(n, len);
+    let Ok(Split { chunk, rest }) = parts else {
+        return Kept {
+            ring,
+            answer: parts.and(Ok(())),
+        };
     };
     if !are_records(s, w) {
         return Kept {

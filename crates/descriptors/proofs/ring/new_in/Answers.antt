@@ -6,16 +6,16 @@ use Rattle.descriptors.proofs.ring.new_in.Goals.{In-Ok}
 use Rattle.descriptors.proofs.ring.new_in.Goals as goal
 
 -- the split, and what is known of it
-told : (c : In-Ok) → split_of c.args.n c.args.len ≡ Ok c.in-Ok.parts
-told c = sym c.split_of.ensures ∙ c.in-Ok.is
+told : (c : In-Ok) → split_of c.args.n c.args.len ≡ Ok c.in-Ok.field-0
+told c = sym c.split_of-parts.ensures ∙ c.in-Ok.is
 
-known : (c : In-Ok) → Known c.args.n c.args.len c.in-Ok.parts.chunk c.in-Ok.parts.rest
+known : (c : In-Ok) → Known c.args.n c.args.len c.in-Ok.field-0.chunk c.in-Ok.field-0.rest
 known c = parts-known _ _ _ (told c)
 
-pub returns-in-Err : goal.returns-in-Err
-returns-in-Err c =
+pub returns-in_default : goal.returns-in_default
+returns-in_default c =
     let a = c.args in
-    new-refused a.dir a.s.now a.w.now a.n a.len _ _ _ (sym c.split_of.ensures ∙ c.in-Err.is) c.fresh-ring.ensures refl
+    new-refused a.dir a.s.now a.w.now a.n a.len _ _ _ (sym c.split_of-parts.ensures ∙ c.in_default.is) c.fresh-ring.ensures (c.and.ensures ∙ rw c.in_default.is refl)
 
 pub returns-then-not-are_records : goal.returns-then-not-are_records
 returns-then-not-are_records c =
