@@ -1,5 +1,5 @@
 -- Module 5, "Device". "It stands on a record or is stopped, starting at record 0. It never looks at the owner." Where it stands is a
--- `Next`: a record, or nothing once it is stopped, since a step "moves to next as read at that moment; none means stopped".
+-- number, or nothing once it is stopped, since a step "moves to next as read at that moment; none means stopped".
 use Rattle.std.specs.Prelude.{ℕ, Bool, cond, ◌&&◌, List, ◌++◌, leb, ltb, length, take, drop, Ok, Err, Some, None, Option}
 use Rattle.std.proofs.Math.Seq.{paste}
 use Rattle.descriptors.specs.Record.{update, closed, sent}
