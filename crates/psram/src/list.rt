@@ -11,6 +11,7 @@ use crate::cut::plan;
 use crate::held::{DescriptorSet, Held, Listed};
 use crate::piece::{piece_at, pieces, ready};
 use crate::plan::Plan;
+use descriptors::record::LIMIT;
 use descriptors::refusal::DmaBufError;
 use descriptors::ring::Kept;
 use descriptors::{cells, ring};
@@ -46,7 +47,8 @@ fn list_pieces(s: &mut [u32], w: &mut [u16], p: Plan, used: usize) -> usize
     ensures { (result ≡ covered_of p used) × (s.new ≡ up_to (list_start p) used s.old) × (w.new ≡ up_to (list_cells p) used w.old) }
 {
     let mut covered: usize = 0;
-    for i in 0..used {
+    // said again for the compiler: every one of them is a record
+    for i in 0..used.min(LIMIT) {
         covered += list_one(s, w, p, i);
     }
     covered

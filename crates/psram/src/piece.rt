@@ -22,7 +22,7 @@ fn directs(middle: usize) -> usize
     requires { middle ≤ top }
     ensures { result ≡ directs middle }
 {
-    middle.div_ceil(PIECE)
+    (middle + (PIECE - 1)) / PIECE
 }
 
 #[tactic(auto, unfolding(crate::specs::Piece::pieces_of))]
@@ -87,7 +87,10 @@ pub(crate) fn ready(
     if LIMIT < n {
         return Err(DmaBufError::TooManyDescriptors);
     }
-    if !held || store < 2 * chip.bounce() {
+    if !held {
+        return Err(DmaBufError::BadState);
+    }
+    if store < 2 * chip.bounce() {
         return Err(DmaBufError::BadState);
     }
     if is_past(address, length) {
