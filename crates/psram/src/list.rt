@@ -1,5 +1,5 @@
 // The records that the pieces of a range are given to.
-ghost use Rattle.std.specs.Prelude.{◌≡◌, ◌≤◌};
+ghost use Rattle.std.specs.Prelude.{◌≡◌, ◌≤◌, length};
 ghost use Rattle.descriptors.specs.Record.{limit, up_to};
 ghost use Rattle.descriptors.specs.Cells.{records_of};
 ghost use Rattle.psram.specs.Cut.{piece};
@@ -43,12 +43,12 @@ fn list_one(s: &mut [u32], w: &mut [u16], p: Plan, i: usize) -> usize
 
 // The first `used` records get their pieces; answers the bytes that they cover.
 fn list_pieces(s: &mut [u32], w: &mut [u16], p: Plan, used: usize) -> usize
-    requires { Small p × (used ≤ limit) }
+    requires { Small p × (used ≤ limit) × (used ≤ length s.old) }
     ensures { (result ≡ covered_of p used) × (s.new ≡ up_to (list_start p) used s.old) × (w.new ≡ up_to (list_cells p) used w.old) }
 {
     let mut covered: usize = 0;
     // said again for the compiler: every one of them is a record
-    for i in 0..used.min(LIMIT) {
+    for i in 0..used.min(LIMIT).min(s.len()) {
         covered += list_one(s, w, p, i);
     }
     covered
