@@ -1,6 +1,6 @@
 // Bytes as pairs of hex digits without blanks, `-` for none.
 ghost use Rattle.std.specs.Prelude.{◌≡◌, ℕ, ◌+◌, ◌*◌, ◌<◌, ◌≤◌, length, get_or};
-ghost use Rattle.bench.specs.Pairs.{pair_at};
+ghost use Rattle.bench.specs.Pairs.{pair_at, digits_of};
 
 use crate::digit;
 use crate::why::Why;
@@ -45,7 +45,19 @@ pub fn read<'a>(word: &[u8], data: &'a mut [u8]) -> Result<&'a [u8], Why> {
 }
 
 // How many bytes are spelled at a time.
-const SPELLED: usize = 32;
+const SPELLED: usize = 128;
+
+// The digits of some bytes, at the front of the room.
+fn spell<'a>(part: &[u8], room: &'a mut [u8]) -> &'a str
+    requires { 2 * length part.now ≤ length room.old }
+    ensures { result.now ≡ digits_of part.now }
+{
+    for i in 0..part.len() {
+        room[2 * i] = digit::digit_of(part[i] / 16);
+        room[2 * i + 1] = digit::digit_of(part[i]);
+    }
+    unsafe { str::from_utf8_unchecked(&room[..2 * part.len()]) }
+}
 
 // Bytes, to be told.
 #[derive(Clone, Copy)]
@@ -56,14 +68,9 @@ impl fmt::Display for Pairs<'_> {
         if self.0.is_empty() {
             return f.write_str("-");
         }
+        let mut room = [0u8; 2 * SPELLED];
         for part in self.0.chunks(SPELLED) {
-            let mut digits = [[0u8; 2]; SPELLED];
-            for (pair, b) in digits.iter_mut().zip(part) {
-                *pair = [digit::digit_of(*b / 16), digit::digit_of(*b)];
-            }
-            // No part is longer, but `chunks` does not say so to the check.
-            let text = digits[..part.len().min(SPELLED)].as_flattened();
-            f.write_str(str::from_utf8(text).map_err(|_| fmt::Error)?)?;
+            f.write_str(spell(part, &mut room))?;
         }
         Ok(())
     }
