@@ -15,11 +15,12 @@ pub fn value_of(b: u8) -> Option<u8>
     }
 }
 
-// The digit of a value's last four bits.
+// The digit of a value's last four bits. A sum, and not a choice of two: spelled in a row, digits then take fewer steps.
 #[tactic(auto, unfolding(crate::specs::Digit::digit_of))]
 pub fn digit_of(v: u8) -> u8
     ensures { result ≡ digit_of (v % 16) }
 {
     let d = v % 16;
-    if d < 10 { b'0' + d } else { b'a' + (d - 10) }
+    let gap = if d < 10 { 0 } else { b'a' - 10 - b'0' };
+    b'0' + d + gap
 }

@@ -1,5 +1,6 @@
 // The list of pieces over the first records, and where each piece lies.
 use crate::command::Range;
+use crate::show::counted;
 use descriptors::cells;
 use psram::cut;
 use psram::held::Listed;
@@ -36,9 +37,9 @@ impl Direct {
     // What holds the piece that begins there.
     fn holder(self, from: usize) -> &'static str {
         if self.start <= from && from - self.start < self.size {
-            "range"
+            " range "
         } else {
-            "store"
+            " store "
         }
     }
 }
@@ -49,10 +50,10 @@ impl fmt::Display for Pieces<'_> {
         write!(f, "covered {covered} records {used}")?;
         let mut from: usize = 0;
         for i in 0..used {
-            let holder = self.direct.holder(from);
-            let start = cells::start_of(self.starts, i);
             let size = cells::size_of(self.cells, i);
-            write!(f, "\npiece {i} {holder} {start} {size}")?;
+            counted(f, "\npiece ", i)?;
+            counted(f, self.direct.holder(from), cells::start_of(self.starts, i))?;
+            counted(f, " ", size)?;
             from = from.saturating_add(size);
         }
         Ok(())

@@ -1,4 +1,7 @@
 // The state, as the commands that set it up again.
+ghost use Rattle.std.specs.Prelude.{Some};
+ghost use Rattle.std.specs.Fmt.{DisplaysOnOk, ◌++?◌};
+
 use crate::bench::Ring;
 use descriptors::cells;
 use descriptors::record::{DmaDescriptor, Owner, TransferDirection};
@@ -11,6 +14,19 @@ pub struct Show<'a> {
     pub cells: &'a [u16],
 }
 
+// A text, and a number behind it. By itself and in place, since `write!` sets a formatter's options anew for each of its parts.
+#[inline(always)]
+pub fn counted<D: fmt::Display + Drop, W: fmt::Write>(
+    f: &mut fmt::Formatter<W>,
+    text: &str,
+    number: D,
+) -> fmt::Result
+    ensures { DisplaysOnOk W.write_str_gives f.old result (Some text.now ++? D.output number) f.new }
+{
+    f.write_str(text)?;
+    number.fmt(f)
+}
+
 // A record's number, or the word for none.
 #[derive(Clone, Copy)]
 struct OrNone<'a>(Option<u16>, &'a str);
@@ -18,13 +34,13 @@ struct OrNone<'a>(Option<u16>, &'a str);
 impl fmt::Display for OrNone<'_> {
     fn fmt<W: fmt::Write>(&self, f: &mut fmt::Formatter<W>) -> fmt::Result {
         match self.0 {
-            Some(i) => write!(f, "{i}"),
+            Some(i) => i.fmt(f),
             None => f.write_str(self.1),
         }
     }
 }
 
-// A record, as `record` sets it.
+// A record on a line of its own, as `record` sets it.
 #[derive(Clone, Copy)]
 struct Record(usize, DmaDescriptor);
 
@@ -39,16 +55,18 @@ impl fmt::Display for Record {
             owner,
             next,
         } = self.1;
-        let eof = if suc_eof { "eof" } else { "-" };
-        let owner = match owner {
-            Owner::Cpu => "cpu",
-            Owner::Dma => "dma",
+        let marks = match (suc_eof, owner) {
+            (false, Owner::Cpu) => " - cpu ",
+            (false, Owner::Dma) => " - dma ",
+            (true, Owner::Cpu) => " eof cpu ",
+            (true, Owner::Dma) => " eof dma ",
         };
-        write!(
-            f,
-            "record {i} {buffer} {size} {length} {eof} {owner} {}",
-            OrNone(next, "-")
-        )
+        counted(f, "\nrecord ", i)?;
+        counted(f, " ", buffer)?;
+        counted(f, " ", size)?;
+        counted(f, " ", length)?;
+        f.write_str(marks)?;
+        OrNone(next, "-").fmt(f)
     }
 }
 
@@ -80,8 +98,7 @@ impl fmt::Display for Show<'_> {
             "{ring}\ncursor {i} {offset}\ntally {tally}\ndevice {device}"
         )?;
         for i in 0..head.count {
-            let record = Record(i, cells::descriptor(self.starts, self.cells, i));
-            write!(f, "\n{record}")?;
+            Record(i, cells::descriptor(self.starts, self.cells, i)).fmt(f)?;
         }
         Ok(())
     }
