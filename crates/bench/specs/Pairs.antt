@@ -16,3 +16,8 @@ pair_at w i = byte_of (value_of (get_or w (2 * i) 0)) (value_of (get_or w (2 * i
 unfoldable pub digits_of : List ℕ → List ℕ
 digits_of [] = []
 digits_of (b ∷ rest) = digit_of (b / 16) ∷ digit_of (b % 16) ∷ digits_of rest
+
+-- bytes as an answer tells them: 45 is `-`
+abbrev pub told : List ℕ → List ℕ
+told [] = 45 ∷ []
+told (b ∷ rest) = digits_of (b ∷ rest)

@@ -1,6 +1,6 @@
 // Bytes as pairs of hex digits without blanks, `-` for none.
-ghost use Rattle.std.specs.Prelude.{◌≡◌, ℕ, ◌+◌, ◌*◌, ◌<◌, ◌≤◌, length, get_or};
-ghost use Rattle.bench.specs.Pairs.{pair_at, digits_of};
+ghost use Rattle.std.specs.Prelude.{Some, ◌≡◌, ℕ, ◌+◌, ◌*◌, ◌<◌, ◌≤◌, length, get_or};
+ghost use Rattle.bench.specs.Pairs.{pair_at, digits_of, told};
 
 use crate::digit;
 use crate::why::Why;
@@ -64,6 +64,8 @@ fn spell<'a>(part: &[u8], room: &'a mut [u8]) -> &'a str
 pub struct Pairs<'a>(pub &'a [u8]);
 
 impl fmt::Display for Pairs<'_> {
+    ghost output = { λ p. Some (told p.0.now) };
+
     fn fmt<W: fmt::Write>(&self, f: &mut fmt::Formatter<W>) -> fmt::Result {
         if self.0.is_empty() {
             return f.write_str("-");
