@@ -5,11 +5,14 @@
 use Rattle.std.specs.Prelude.{ℕ, ◌≡◌, refl, Bool, List, length, Option}
 use Rattle.std.proofs.Common.{sym, ◌∙◌}
 use Rattle.descriptors.specs.Cells.{cells_now, put_start, put_record}
+use Rattle.descriptors.specs.Stores.{hand_all}
+use Rattle.descriptors.specs.Moves.{moved_in, head_moved}
 use Rattle.descriptors.specs.Ring.{Ring, ring_of, head_of, kept_of, NewIn}
 use Rattle.descriptors.specs.declared.record.DmaDescriptor.{DmaDescriptor}
 use Rattle.descriptors.specs.declared.record.TransferDirection.{TransferDirection}
 use Rattle.descriptors.specs.declared.ring.Head.{Head}
 use Rattle.descriptors.specs.declared.ring.Kept.{Kept}
+use Rattle.descriptors.specs.declared.walk.Moved.{Moved}
 use Rattle.std.specs.Borrow.{Bor}
 use Rattle.psram.specs.List.{Leaves, Listing}
 use Rattle.psram.specs.declared.held.Listed.{Listed}
@@ -72,6 +75,11 @@ pub new_in : (dir : TransferDirection) (st ws : List ℕ) (n len : ℕ)
     → Determined (λ (x : List ℕ × List ℕ × Head × Answer Unit). NewIn dir st ws n len x.0 x.1 x.2 x.3)
 new_in dir st ws n len x y e f =
     rw (e.starts, e.cells, e.head, e.answer, f.starts, f.cells, f.head, f.answer) refl
+
+-- `advance`: the cells, the head and the answer
+pub advance : (dir : TransferDirection) (ws : List ℕ) (h : Head) (k : ℕ) → let m = moved_in dir ws h k in
+    Determined (λ (x : List ℕ × Head × Moved). (x.0 ≡ hand_all dir h.count m.back h.descriptor_idx ws) × (x.1 ≡ head_moved h k m) × (x.2 ≡ m))
+advance dir ws h k = by_three _ _ _
 
 -- ---- psram
 
