@@ -32,6 +32,7 @@ pub fn counted<D: fmt::Display + Drop, W: fmt::Write>(
 struct OrNone<'a>(Option<u16>, &'a str);
 
 impl fmt::Display for OrNone<'_> {
+    #[inline(always)]
     fn fmt<W: fmt::Write>(&self, f: &mut fmt::Formatter<W>) -> fmt::Result {
         match self.0 {
             Some(i) => i.fmt(f),
@@ -55,17 +56,16 @@ impl fmt::Display for Record {
             owner,
             next,
         } = self.1;
-        let marks = match (suc_eof, owner) {
-            (false, Owner::Cpu) => " - cpu ",
-            (false, Owner::Dma) => " - dma ",
-            (true, Owner::Cpu) => " eof cpu ",
-            (true, Owner::Dma) => " eof dma ",
-        };
         counted(f, "\nrecord ", i)?;
         counted(f, " ", buffer)?;
         counted(f, " ", size)?;
         counted(f, " ", length)?;
-        f.write_str(marks)?;
+        match (suc_eof, owner) {
+            (false, Owner::Cpu) => f.write_str(" - cpu ")?,
+            (false, Owner::Dma) => f.write_str(" - dma ")?,
+            (true, Owner::Cpu) => f.write_str(" eof cpu ")?,
+            (true, Owner::Dma) => f.write_str(" eof dma ")?,
+        }
         OrNone(next, "-").fmt(f)
     }
 }
