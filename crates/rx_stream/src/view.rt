@@ -25,7 +25,13 @@ impl DmaRxStreamBufView {
     pub fn available_bytes(self, len: usize) -> Result<usize, DmaBufError>
         ensures { result ≡ available_of (ring_of self.starts self.cells self.head) len }
     {
-        in_place::available_in(&self.starts, &self.cells, self.head, len)
+        // here and in `peek` the words lie in variables: lent out of the ring, the whole of it is copied once more
+        let DmaRxStreamBufView {
+            starts,
+            cells,
+            head,
+        } = self;
+        in_place::available_in(&starts, &cells, head, len)
     }
 
     // The longest part of the buffer, from the cursor on, that holds bytes to read. It ignores EOFs.
@@ -33,7 +39,12 @@ impl DmaRxStreamBufView {
         ensures result_value { result.now ≡ peek_of false (ring_of self.starts self.cells self.head) buffer.now }
         ensures ref_ptr_value { result.ref_ptr ≡ part_from buffer.entry (peek_place (ring_of self.starts self.cells self.head) buffer.now) }
     {
-        in_place::peek_in(&self.starts, &self.cells, self.head, buffer)
+        let DmaRxStreamBufView {
+            starts,
+            cells,
+            head,
+        } = self;
+        in_place::peek_in(&starts, &cells, head, buffer)
     }
 
     // The same, but it does not skip over any EOF.

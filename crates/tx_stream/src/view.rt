@@ -27,7 +27,13 @@ impl DmaTxStreamBufView {
     pub fn available_bytes(self, len: usize) -> Result<usize, DmaBufError>
         ensures { result ≡ available_of (view_ring self) len }
     {
-        in_place::available_in(&self.starts, &self.cells, self.head, len)
+        // the words lie in variables: lent out of the ring, the whole of it is copied once more
+        let DmaTxStreamBufView {
+            starts,
+            cells,
+            head,
+        } = self;
+        in_place::available_in(&starts, &cells, head, len)
     }
 
     // Pushes data into the stream buffer, as much as is available.
